@@ -1,0 +1,61 @@
+// Hexadecimal digits, and numbers in a fixed count of them.
+ghost use mathlib.Core.Logic.{_⊎_};
+ghost use mathlib.Core.Path.{_≡_};
+ghost use Prim.Native.Nat.{ℕ, _^_, _<_};
+ghost use lib.ListN.{length};
+ghost use Rattle.std.specs.Options.{Cases as BySome};
+ghost use Rattle.std.specs.shelf.Lists.{All};
+ghost use Rattle.hex.specs.Hex.{Hex, char-of, digits};
+
+// The most digits a 64-bit number has.
+const WIDEST: usize = 16;
+
+// The value of a hexadecimal digit: 0 to 9 and small a to f only.
+pub fn value(byte: u8) -> Option<u8>
+    ensures { λ r. ⌜ BySome r (Hex byte → ⊥) (λ d. Hex byte × (d < 16) × (byte ≡ char-of d)) ⌝ }
+{
+    match char::from(byte) {
+        '0'..='9' => Some(byte - b'0'),
+        'a'..='f' => Some(byte - b'a' + 10),
+        _ => None,
+    }
+}
+
+// The digit of a value below sixteen.
+fn digit(value: u8) -> u8
+    requires { ⌜ value < 16 ⌝ }
+    ensures { λ r. ⌜ r ≡ char-of value ⌝ }
+{
+    match value {
+        0..=9 => b'0' + value,
+        _ => b'a' + (value - 10),
+    }
+}
+
+// The number that a text of at most sixteen digits writes; none for any other text.
+pub fn number(text: &[u8]) -> Option<u64>
+    ensures { λ r. ⌜ BySome r ((16 < length (now (text .entry))) ⊎ (All Hex (now (text .entry)) → ⊥)) (λ n. (n < 16 ^ length (now (text .entry))) × (now (text .entry) ≡ digits (length (now (text .entry))) n)) ⌝ }
+{
+    if text.len() > WIDEST {
+        return None;
+    }
+    let mut n = 0;
+    for byte in text {
+        let Some(d) = value(*byte) else {
+            return None;
+        };
+        n = n * 16 + u64::from(d);
+    }
+    Some(n)
+}
+
+// Fills `out` with the last digits of `value`, one to a place, the highest first.
+pub fn put(out: &mut [u8], value: u64)
+    ensures { λ _. ⌜ now (out .exit) ≡ digits (length (now (out .entry))) value ⌝ }
+{
+    let mut rest = value;
+    for place in (0..out.len()).rev() {
+        out[place] = digit((rest % 16) as u8);
+        rest /= 16;
+    }
+}

@@ -1,0 +1,4 @@
+pub mod Damage
+pub mod Lines
+pub mod Judged
+pub mod Buffer

@@ -1,0 +1,68 @@
+// A line that comes in byte by byte.
+ghost use mathlib.Core.Bool.{true};
+ghost use mathlib.Core.List.{List, [], _∷_, _++_};
+ghost use mathlib.Core.Path.{_≡_};
+ghost use Prim.Native.Nat.{ℕ, _≤_};
+ghost use lib.ListN.{length};
+ghost use Rattle.std.specs.Orderings.{Decides};
+ghost use Rattle.lines.specs.Buffer.{Holds};
+ghost use Rattle.lines.specs.Judged.{Judged};
+use crate::damage::LONGEST;
+use crate::line::Line;
+use crate::line::judge;
+
+// The first 512 characters of a line, and how many it has, counted to 513: what is past them is only
+// known to be there.
+#[derive(Drop)]
+pub struct LineBuffer {
+    places: [u8; 512],
+    count: usize,
+    ghost bound: { count ≤ 513 },
+}
+
+impl LineBuffer {
+    pub fn new() -> LineBuffer
+        ensures { λ r. ⌜ Holds (r .places) (r .count) [] ⌝ }
+    {
+        LineBuffer {
+            places: [0; LONGEST],
+            count: 0,
+        }
+    }
+
+    // One character more.
+    pub fn push(&mut self, byte: u8)
+        ensures { λ _. ⌜ ((line : List ℕ) → Holds (now (self .entry) .places) (now (self .entry) .count) line → Holds (now (self .exit) .places) (now (self .exit) .count) (line ++ byte ∷ [])) ⌝ }
+    {
+        if self.count >= LONGEST {
+            self.count = LONGEST + 1;
+            return;
+        }
+        self.places[self.count] = byte;
+        self.count += 1;
+    }
+
+    // Makes room for the next line.
+    pub fn clear(&mut self)
+        ensures { λ _. ⌜ Holds (now (self .exit) .places) (now (self .exit) .count) [] ⌝ }
+    {
+        self.count = 0;
+    }
+
+    pub fn is_empty(&self) -> bool
+        ensures { λ r. ⌜ ((line : List ℕ) → Holds (now (self .entry) .places) (now (self .entry) .count) line → Decides r (line ≡ [])) ⌝ }
+    {
+        self.count == 0
+    }
+
+    // What the line that came in is, under this number.
+    pub fn judge(&self, number: u16) -> Line<'_>
+        ensures { λ r. ⌜ ((line : List ℕ) → Holds (now (self .entry) .places) (now (self .entry) .count) line → Judged line number r) ⌝ }
+    {
+        judge(
+            number,
+            &self.places[0..self.count.min(LONGEST)],
+            self.count > LONGEST,
+        )
+    }
+}
