@@ -1,0 +1,150 @@
+// Letters as lines: one cutter and one writer for all kinds.
+ghost use mathlib.Core.Path.{_≡_};
+ghost use Prim.Native.Nat.{_≤_};
+ghost use lib.ListN.{length};
+ghost use Rattle.std.specs.shelf.Lists.{All};
+ghost use Rattle.hex.specs.Hex.{Hex};
+ghost use Rattle.letters.specs.Layout.{line-of};
+ghost use Rattle.letters.specs.Reading.{Begins, Cut, Read, ReadsBack, Written, column-of};
+use crate::fields::Fields;
+use crate::kind::AckKind;
+use crate::kind::DoneKind;
+use crate::kind::LetterKind;
+use crate::kind::SendKind;
+use crate::kind::SkipKind;
+use crate::kind::SkipShareKind;
+use crate::kind::ViewChangeKind;
+use crate::letter::Ack;
+use crate::letter::Body;
+use crate::letter::Done;
+use crate::letter::Letter;
+use crate::letter::Send;
+use crate::letter::Skip;
+use crate::letter::SkipShare;
+use crate::letter::ViewChange;
+use crate::pen::Pen;
+use lines::damage::Damage;
+use lines::damage::Layer;
+use lines::damage::text_column;
+use refusals::Refusal;
+
+// The characters of the longest letter's line, a VIEW-CHANGE: a buffer of this length takes any line.
+pub const LONGEST_LINE: usize = 104;
+
+// Why a line of sound text is no letter.
+#[derive(Clone, Copy)]
+pub(crate) enum Fault {
+    Code,
+    Length,
+}
+
+// Cuts a line, which begins with the kind's code, into a letter of that kind.
+fn cut<K: LetterKind>(line: &[u8]) -> Result<Letter, Fault>
+    requires hex { ⌜ All Hex (now line) ⌝ }
+    requires begins { ⌜ Begins (now line) code ⌝ }
+    ensures { λ r. ⌜ Cut (now (line .entry)) r ⌝ }
+{
+    let (_, length) = K::code_and_length();
+    if line.len() != 2 * length {
+        return Err(Fault::Length);
+    }
+    let mut fields = Fields { rest: &line[2..] };
+    let sender = fields.byte();
+    let view = fields.short();
+    let body = K::read(&mut fields).into_body();
+    Ok(Letter { sender, view, body })
+}
+
+// Cuts a line that begins with this code.
+fn cut_coded(code: u8, line: &[u8]) -> Result<Letter, Fault>
+    requires hex { ⌜ All Hex (now line) ⌝ }
+    requires begins { ⌜ Begins (now line) code ⌝ }
+    requires some { ⌜ 2 ≤ length (now line) ⌝ }
+    ensures { λ r. ⌜ Cut (now (line .entry)) r ⌝ }
+{
+    match code {
+        Send::CODE => cut::<Send>(line),
+        Ack::CODE => cut::<Ack>(line),
+        Done::CODE => cut::<Done>(line),
+        SkipShare::CODE => cut::<SkipShare>(line),
+        Skip::CODE => cut::<Skip>(line),
+        ViewChange::CODE => cut::<ViewChange>(line),
+        _ => Err(Fault::Code),
+    }
+}
+
+// Cuts a line of hexadecimal.
+fn cut_line(line: &[u8]) -> Result<Letter, Fault>
+    requires { ⌜ All Hex (now line) ⌝ }
+    ensures { λ r. ⌜ Cut (now (line .entry)) r ⌝ }
+{
+    if line.len() < 2 {
+        return Err(Fault::Length);
+    }
+    let code = Fields { rest: line }.byte();
+    cut_coded(code, line)
+}
+
+// The column of a fault: an unknown code's own, or one past the end.
+fn fault_column(fault: Fault, line: &[u8]) -> u16
+    requires { ⌜ length (now line) ≤ 512 ⌝ }
+    ensures { λ r. ⌜ r ≡ column-of fault (now (line .entry)) ⌝ }
+{
+    match fault {
+        Fault::Code => 1,
+        Fault::Length => line.len() as u16 + 1,
+    }
+}
+
+// Writes a letter of a kind.
+fn write_kind<K: LetterKind>(letter: &Letter, kind: &K, out: &mut [u8]) -> Result<usize, Refusal>
+    requires { ⌜ now letter .body ≡ means (now kind) ⌝ }
+    ensures { λ r. ⌜ Written (line-of (now (letter .entry))) (now (out .entry)) (now (out .exit)) r ⌝ }
+{
+    let (code, length) = K::code_and_length();
+    if out.len() < 2 * length {
+        return Err(Refusal::BufferTooShort);
+    }
+    let mut pen = Pen { out, at: 0 };
+    pen.byte(code);
+    pen.byte(letter.sender);
+    pen.short(letter.view);
+    kind.write(&mut pen);
+    Ok(2 * length)
+}
+
+impl Letter {
+    // Reads a line, given without its end, as a letter.
+    pub fn read(line: &[u8]) -> Result<Letter, Damage>
+        ensures read { λ r. ⌜ Read (now (line .entry)) r ⌝ }
+        ensures back { λ r. ⌜ ReadsBack (now (line .entry)) r ⌝ }
+    {
+        if let Some(column) = text_column(line) {
+            return Err(Damage {
+                layer: Layer::Text,
+                column,
+            });
+        }
+        match cut_line(line) {
+            Ok(letter) => Ok(letter),
+            Err(fault) => Err(Damage {
+                layer: Layer::Frame,
+                column: fault_column(fault, line),
+            }),
+        }
+    }
+
+    // Writes the letter as a line, without its end, at the front of a buffer, and says how long it is.
+    pub fn write(&self, out: &mut [u8]) -> Result<usize, Refusal>
+        ensures { λ r. ⌜ Written (line-of (now (self .entry))) (now (out .entry)) (now (out .exit)) r ⌝ }
+    {
+        match &self.body {
+            Body::Send(kind) => write_kind(self, kind, out),
+            Body::Ack(kind) => write_kind(self, kind, out),
+            Body::Done(kind) => write_kind(self, kind, out),
+            Body::SkipShare(kind) => write_kind(self, kind, out),
+            Body::Skip(kind) => write_kind(self, kind, out),
+            Body::ViewChange(kind) => write_kind(self, kind, out),
+        }
+    }
+}
