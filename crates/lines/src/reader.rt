@@ -54,8 +54,12 @@ pub impl<'a> Iterator for Reader<'a> as ReaderIterator {
             return None;
         }
         let (text, rest) = first_line(self.rest);
-        self.rest = rest;
-        self.number += 1;
-        Some(Line::of(self.number, text))
+        let number = self.number + 1;
+        *self = Reader {
+            input: self.input,
+            rest,
+            number,
+        };
+        Some(Line::of(number, text))
     }
 }

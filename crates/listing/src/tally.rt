@@ -1,0 +1,142 @@
+// How many lines there were of each sort.
+ghost use mathlib.Core.Bool.{Bool, true, false};
+ghost use mathlib.Core.List.{List, [], _∷_, _++_};
+ghost use mathlib.Core.Path.{_≡_};
+ghost use Prim.Native.Nat.{ℕ, _+_, _≤_, _<_};
+ghost use Rattle.std.specs.Options.{Cases as BySome};
+ghost use Rattle.std.specs.Orderings.{When};
+ghost use Rattle.listing.specs.Tallies.{Adds, Tallies, letters-in, lines-in};
+ghost use Rattle.listing.specs.declared.entry.Entry.{Entry};
+use crate::entry::Entry;
+use letters::letter::Body;
+use lines::damage::Layer;
+use lines::reader::LAST;
+
+// Letters by kind, notes, and lines damaged in their text or in their frame.
+#[derive(Clone, Copy)]
+pub struct Tally {
+    pub send: u16,
+    pub ack: u16,
+    pub done: u16,
+    pub skip_share: u16,
+    pub skip: u16,
+    pub view_change: u16,
+    pub notes: u16,
+    pub text: u16,
+    pub frame: u16,
+}
+
+impl Tally {
+    pub fn new() -> Tally
+        ensures { λ r. ⌜ Tallies [] r ⌝ }
+    {
+        Tally {
+            send: 0,
+            ack: 0,
+            done: 0,
+            skip_share: 0,
+            skip: 0,
+            view_change: 0,
+            notes: 0,
+            text: 0,
+            frame: 0,
+        }
+    }
+
+    // How many letters were counted.
+    pub fn letters(&self) -> u32
+        ensures { λ r. ⌜ r ≡ letters-in (now (self .entry)) ⌝ }
+    {
+        u32::from(self.send)
+            + u32::from(self.ack)
+            + u32::from(self.done)
+            + u32::from(self.skip_share)
+            + u32::from(self.skip)
+            + u32::from(self.view_change)
+    }
+
+    // How many damaged lines were counted.
+    pub fn damaged(&self) -> u32
+        ensures { λ r. ⌜ r ≡ now (self .entry) .text + now (self .entry) .frame ⌝ }
+    {
+        u32::from(self.text) + u32::from(self.frame)
+    }
+
+    // How many lines were counted.
+    pub fn lines(&self) -> u32
+        ensures { λ r. ⌜ r ≡ lines-in (now (self .entry)) ⌝ }
+    {
+        self.letters() + u32::from(self.notes) + u32::from(self.text) + u32::from(self.frame)
+    }
+
+    // The number of the next line, while fewer than 65,535 were counted.
+    pub fn next_line(&self) -> Option<u16>
+        ensures { λ r. ⌜ BySome r (65535 ≤ lines-in (now (self .entry))) (λ n. n ≡ lines-in (now (self .entry)) + 1) ⌝ }
+    {
+        let lines = self.lines();
+        if lines >= u32::from(LAST) {
+            return None;
+        }
+        Some(lines as u16 + 1)
+    }
+
+    // The tally with one entry more.
+    fn with(self, entry: Entry) -> Tally
+        requires { ⌜ lines-in self < 65535 ⌝ }
+        ensures { λ r. ⌜ Adds entry self r ⌝ }
+    {
+        match entry {
+            Entry::Note => Tally {
+                notes: self.notes + 1,
+                ..self
+            },
+            Entry::Letter(letter) => match letter.body {
+                Body::Send(_) => Tally {
+                    send: self.send + 1,
+                    ..self
+                },
+                Body::Ack(_) => Tally {
+                    ack: self.ack + 1,
+                    ..self
+                },
+                Body::Done(_) => Tally {
+                    done: self.done + 1,
+                    ..self
+                },
+                Body::SkipShare(_) => Tally {
+                    skip_share: self.skip_share + 1,
+                    ..self
+                },
+                Body::Skip(_) => Tally {
+                    skip: self.skip + 1,
+                    ..self
+                },
+                Body::ViewChange(_) => Tally {
+                    view_change: self.view_change + 1,
+                    ..self
+                },
+            },
+            Entry::Damaged(damage) => match damage.layer {
+                Layer::Text => Tally {
+                    text: self.text + 1,
+                    ..self
+                },
+                Layer::Frame => Tally {
+                    frame: self.frame + 1,
+                    ..self
+                },
+            },
+        }
+    }
+
+    // Counts an entry, and says whether it did: no more than 65,535 are counted.
+    pub fn count(&mut self, entry: Entry) -> bool
+        ensures { λ r. ⌜ When r ((es : List Entry) → Tallies es (now (self .entry)) → Tallies (es ++ entry ∷ []) (now (self .exit))) ((65535 ≤ lines-in (now (self .entry))) × (now (self .exit) ≡ now (self .entry))) ⌝ }
+    {
+        if self.next_line().is_none() {
+            return false;
+        }
+        *self = self.with(entry);
+        true
+    }
+}
