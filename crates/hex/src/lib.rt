@@ -1,7 +1,7 @@
 // Hexadecimal digits, and numbers in a fixed count of them.
 ghost use mathlib.Core.Logic.{_⊎_};
 ghost use mathlib.Core.Path.{_≡_};
-ghost use Prim.Native.Nat.{ℕ, _^_, _<_};
+ghost use Prim.Native.Nat.{ℕ, _%_, _^_, _<_};
 ghost use lib.ListN.{length};
 ghost use Rattle.std.specs.Options.{Cases as BySome};
 ghost use Rattle.std.specs.shelf.Lists.{All};
@@ -32,6 +32,13 @@ fn digit(value: u8) -> u8
     }
 }
 
+// The last digit of a number.
+fn last_digit(number: u64) -> u8
+    ensures { λ r. ⌜ r ≡ char-of (number % 16) ⌝ }
+{
+    digit((number % 16) as u8)
+}
+
 // The number that a text of at most sixteen digits writes; none for any other text.
 pub fn number(text: &[u8]) -> Option<u64>
     ensures { λ r. ⌜ BySome r ((16 < length (now (text .entry))) ⊎ (All Hex (now (text .entry)) → ⊥)) (λ n. (n < 16 ^ length (now (text .entry))) × (now (text .entry) ≡ digits (length (now (text .entry))) n)) ⌝ }
@@ -55,7 +62,7 @@ pub fn put(out: &mut [u8], value: u64)
 {
     let mut rest = value;
     for place in (0..out.len()).rev() {
-        out[place] = digit((rest % 16) as u8);
+        out[place] = last_digit(rest);
         rest /= 16;
     }
 }

@@ -63,7 +63,7 @@ body-at c vs =
     cond (eqb c 17) (Send (record { step = getD vs 2 0; edition = getD vs 3 0; «key_view» = getD vs 4 0; mask = getD vs 5 0 }))
     (cond (eqb c 18) (Ack (record { lead = getD vs 2 0; step = getD vs 3 0; edition = getD vs 4 0 }))
     (cond (eqb c 19) (Done (record { edition = getD vs 2 0; mask = getD vs 3 0 }))
-    (cond (eqb c 20) (SkipShare (record { }))
+    (cond (eqb c 20) (SkipShare (record {}))
     (cond (eqb c 21) (Skip (record { mask = getD vs 2 0 }))
     (ViewChange (record { key = record { edition = getD vs 2 0; mask = getD vs 3 0 }; lock = record { edition = getD vs 4 0; mask = getD vs 5 0 }; commit = record { edition = getD vs 6 0; mask = getD vs 7 0 } }))))))
 

@@ -1,10 +1,11 @@
 // Letters as lines: one cutter and one writer for all kinds.
+ghost use mathlib.Core.List.{_++_};
 ghost use mathlib.Core.Path.{_≡_};
-ghost use Prim.Native.Nat.{_≤_};
-ghost use lib.ListN.{length};
+ghost use Prim.Native.Nat.{_*_, _≤_};
+ghost use lib.ListN.{length, drop};
 ghost use Rattle.std.specs.shelf.Lists.{All};
 ghost use Rattle.hex.specs.Hex.{Hex};
-ghost use Rattle.letters.specs.Layout.{line-of};
+ghost use Rattle.letters.specs.Layout.{Fits, line-of, size-at};
 ghost use Rattle.letters.specs.Reading.{Begins, Cut, Read, ReadsBack, Written, column-of};
 use crate::fields::Fields;
 use crate::kind::AckKind;
@@ -38,6 +39,21 @@ pub(crate) enum Fault {
     Length,
 }
 
+// Cuts a line of the kind's code and length.
+fn cut_fields<K: LetterKind>(line: &[u8]) -> Letter
+    requires hex { ⌜ All Hex (now line) ⌝ }
+    requires begins { ⌜ Begins (now line) code ⌝ }
+    requires long { ⌜ length (now line) ≡ 2 * size-at code ⌝ }
+    ensures line { λ r. ⌜ now (line .entry) ≡ line-of r ⌝ }
+    ensures fits { λ r. ⌜ Fits r ⌝ }
+{
+    let mut fields = Fields { rest: &line[2..] };
+    let sender = fields.byte();
+    let view = fields.short();
+    let body = K::read(&mut fields).into_body();
+    Letter { sender, view, body }
+}
+
 // Cuts a line, which begins with the kind's code, into a letter of that kind.
 fn cut<K: LetterKind>(line: &[u8]) -> Result<Letter, Fault>
     requires hex { ⌜ All Hex (now line) ⌝ }
@@ -48,11 +64,7 @@ fn cut<K: LetterKind>(line: &[u8]) -> Result<Letter, Fault>
     if line.len() != 2 * length {
         return Err(Fault::Length);
     }
-    let mut fields = Fields { rest: &line[2..] };
-    let sender = fields.byte();
-    let view = fields.short();
-    let body = K::read(&mut fields).into_body();
-    Ok(Letter { sender, view, body })
+    Ok(cut_fields::<K>(line))
 }
 
 // Cuts a line that begins with this code.
@@ -96,21 +108,41 @@ fn fault_column(fault: Fault, line: &[u8]) -> u16
     }
 }
 
-// Writes a letter of a kind.
-fn write_kind<K: LetterKind>(letter: &Letter, kind: &K, out: &mut [u8]) -> Result<usize, Refusal>
+// How many characters the line of a letter of a kind has.
+fn line_length<K: LetterKind>(letter: &Letter, kind: &K) -> usize
     requires { ⌜ now letter .body ≡ means (now kind) ⌝ }
-    ensures { λ r. ⌜ Written (line-of (now (letter .entry))) (now (out .entry)) (now (out .exit)) r ⌝ }
+    ensures line { λ r. ⌜ r ≡ length (line-of (now (letter .entry))) ⌝ }
+    ensures size { λ r. ⌜ r ≡ 2 * size-at code ⌝ }
 {
-    let (code, length) = K::code_and_length();
-    if out.len() < 2 * length {
-        return Err(Refusal::BufferTooShort);
-    }
+    let (_, length) = K::code_and_length();
+    2 * length
+}
+
+// Writes a letter of a kind at the front of a buffer that has room for it.
+fn put_kind<K: LetterKind>(letter: &Letter, kind: &K, out: &mut [u8])
+    requires kind { ⌜ now letter .body ≡ means (now kind) ⌝ }
+    requires room { ⌜ 2 * size-at code ≤ length (now out) ⌝ }
+    ensures { λ _. ⌜ now (out .exit) ≡ line-of (now (letter .entry)) ++ drop (2 * size-at code) (now (out .entry)) ⌝ }
+{
+    let (code, _) = K::code_and_length();
     let mut pen = Pen { out, at: 0 };
     pen.byte(code);
     pen.byte(letter.sender);
     pen.short(letter.view);
     kind.write(&mut pen);
-    Ok(2 * length)
+}
+
+// Writes a letter of a kind, unless the buffer is too short for it.
+fn write_kind<K: LetterKind>(letter: &Letter, kind: &K, out: &mut [u8]) -> Result<usize, Refusal>
+    requires { ⌜ now letter .body ≡ means (now kind) ⌝ }
+    ensures { λ r. ⌜ Written (line-of (now (letter .entry))) (now (out .entry)) (now (out .exit)) r ⌝ }
+{
+    let length = line_length(letter, kind);
+    if out.len() < length {
+        return Err(Refusal::BufferTooShort);
+    }
+    put_kind(letter, kind, out);
+    Ok(length)
 }
 
 impl Letter {

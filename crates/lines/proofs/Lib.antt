@@ -1,3 +1,4 @@
 pub mod Ends
 pub mod Fronts
 pub mod Kept
+pub mod Intakes

@@ -16,6 +16,12 @@ use Rattle.lines.specs.declared.line.Line.the-variants.{Note, Frame, Damaged}
 abbrev pub IsNote : List ℕ → Type 0
 IsNote text = (length text ≡ 0) ⊎ ((0 < length text) × (getD text 0 0 ≡ 59))
 
+-- the number that a line carries
+abbrev pub number-of : Line → ℕ
+number-of (Note number part) = number
+number-of (Frame number part) = number
+number-of (Damaged number column part) = number
+
 -- what the line with this text and number is; its part is the text, of an overlong one the first 512
 abbrev pub Judged : List ℕ → ℕ → Line → Type 0
 Judged text n (Note number part) = (number ≡ n) × (part .now ≡ text) × IsNote text × (length text ≤ 512)

@@ -2,3 +2,4 @@ pub mod Damage
 pub mod Lines
 pub mod Judged
 pub mod Buffer
+pub mod Intake

@@ -42,10 +42,18 @@ pub(crate) fn front_column(front: &[u8], longer: bool) -> Option<u16>
     None
 }
 
+// The first 512 characters of a line, and whether it has more.
+pub(crate) fn front(line: &[u8]) -> (&[u8], bool)
+    ensures seen { λ r. ⌜ Fronts (now (r .0)) (r .1) (now (line .entry)) ⌝ }
+    ensures few { λ r. ⌜ length (now (r .0)) ≤ 512 ⌝ }
+{
+    (&line[0..line.len().min(LONGEST)], line.len() > LONGEST)
+}
+
 // The least column at which a line's text is damaged, if any is.
 pub fn text_column(line: &[u8]) -> Option<u16>
     ensures { λ r. ⌜ BySome r (Sound (now (line .entry))) (λ column. DamagedAt (now (line .entry)) column) ⌝ }
 {
-    let front = &line[0..line.len().min(LONGEST)];
-    front_column(front, line.len() > LONGEST)
+    let (front, longer) = front(line);
+    front_column(front, longer)
 }

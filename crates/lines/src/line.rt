@@ -2,12 +2,12 @@
 ghost use mathlib.Core.List.{List};
 ghost use mathlib.Core.Path.{_≡_};
 ghost use Prim.Native.Nat.{ℕ, _≤_, _<_};
-ghost use lib.ListN.{length};
+ghost use lib.ListN.{length, getD};
 ghost use Rattle.std.specs.Orderings.{Decides};
 ghost use Rattle.lines.specs.Damage.{Fronts};
-ghost use Rattle.lines.specs.Judged.{IsNote, Judged};
+ghost use Rattle.lines.specs.Judged.{IsNote, Judged, number-of};
 ghost use Rattle.lines.specs.Lines.{RunsTo, after-line, first-line};
-use crate::damage::LONGEST;
+use crate::damage::front;
 use crate::damage::front_column;
 
 // A line of an input: its number, counted from 1, and the part of the input it lies in. A note is a
@@ -29,18 +29,31 @@ pub enum Line<'a> {
     },
 }
 
+// Where the first line of an input ends: at its first 0a, or at the input's end.
+fn line_end(input: &[u8]) -> usize
+    ensures within { λ r. ⌜ r ≤ length (now (input .entry)) ⌝ }
+    ensures before { λ r. ⌜ ((k : ℕ) → k < r → getD (now (input .entry)) k 0 ≡ 10 → ⊥) ⌝ }
+    ensures found { λ r. ⌜ (r < length (now (input .entry)) → getD (now (input .entry)) r 0 ≡ 10) ⌝ }
+{
+    for (i, byte) in input.iter().enumerate() {
+        if *byte == b'\n' {
+            return i;
+        }
+    }
+    input.len()
+}
+
 // The first line of an input, up to byte 0a or the end, and what follows it.
 pub fn first_line(input: &[u8]) -> (&[u8], &[u8])
     ensures line { λ r. ⌜ now (r .0) ≡ first-line (now (input .entry)) ⌝ }
     ensures rest { λ r. ⌜ now (r .1) ≡ after-line (now (input .entry)) ⌝ }
     ensures rule { λ r. ⌜ RunsTo (now (input .entry)) (now (r .0)) (now (r .1)) ⌝ }
 {
-    for (i, byte) in input.iter().enumerate() {
-        if *byte == b'\n' {
-            return (&input[0..i], &input[i + 1..]);
-        }
+    let end = line_end(input);
+    if end == input.len() {
+        return (input, &[]);
     }
-    (input, &[])
+    (&input[0..end], &input[end + 1..])
 }
 
 fn is_note(text: &[u8]) -> bool
@@ -88,7 +101,17 @@ impl<'a> Line<'a> {
     pub fn of(number: u16, text: &'a [u8]) -> Line<'a>
         ensures { λ r. ⌜ Judged (now (text .entry)) number r ⌝ }
     {
-        let front = &text[0..text.len().min(LONGEST)];
-        judge(number, front, text.len() > LONGEST)
+        let (front, longer) = front(text);
+        judge(number, front, longer)
+    }
+    // The number of the line.
+    pub fn number(&self) -> u16
+        ensures { λ r. ⌜ r ≡ number-of (now (self .entry)) ⌝ }
+    {
+        match self {
+            Line::Note { number, .. } => *number,
+            Line::Frame { number, .. } => *number,
+            Line::Damaged { number, .. } => *number,
+        }
     }
 }

@@ -3,7 +3,6 @@ ghost use mathlib.Core.Bool.{Bool, true, false};
 ghost use mathlib.Core.List.{List, [], _∷_, _++_};
 ghost use mathlib.Core.Path.{_≡_};
 ghost use Prim.Native.Nat.{ℕ, _+_, _≤_, _<_};
-ghost use Rattle.std.specs.Options.{Cases as BySome};
 ghost use Rattle.std.specs.Orderings.{When};
 ghost use Rattle.listing.specs.Tallies.{Adds, Tallies, letters-in, lines-in};
 ghost use Rattle.listing.specs.declared.entry.Entry.{Entry};
@@ -69,17 +68,6 @@ impl Tally {
         self.letters() + u32::from(self.notes) + u32::from(self.text) + u32::from(self.frame)
     }
 
-    // The number of the next line, while fewer than 65,535 were counted.
-    pub fn next_line(&self) -> Option<u16>
-        ensures { λ r. ⌜ BySome r (65535 ≤ lines-in (now (self .entry))) (λ n. n ≡ lines-in (now (self .entry)) + 1) ⌝ }
-    {
-        let lines = self.lines();
-        if lines >= u32::from(LAST) {
-            return None;
-        }
-        Some(lines as u16 + 1)
-    }
-
     // The tally with one entry more.
     fn with(self, entry: Entry) -> Tally
         requires { ⌜ lines-in self < 65535 ⌝ }
@@ -133,7 +121,7 @@ impl Tally {
     pub fn count(&mut self, entry: Entry) -> bool
         ensures { λ r. ⌜ When r ((es : List Entry) → Tallies es (now (self .entry)) → Tallies (es ++ entry ∷ []) (now (self .exit))) ((65535 ≤ lines-in (now (self .entry))) × (now (self .exit) ≡ now (self .entry))) ⌝ }
     {
-        if self.next_line().is_none() {
+        if self.lines() >= u32::from(LAST) {
             return false;
         }
         *self = self.with(entry);

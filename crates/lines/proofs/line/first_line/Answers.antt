@@ -1,29 +1,26 @@
-use mathlib.Core.Path.{_≡_, sym, subst₂, _∙_}
+use mathlib.Core.Path.{_≡_, sym, ap, subst₂, _∙_}
 use native.Mathlib.Nat.{sub-zero}
+use native.Mathlib.Numerals.{add-one}
 use native.Mathlib.Omega.{arith}
-use Prim.Native.Nat.{_+_, _-_}
+use Prim.Native.Nat.{_+_, _-_, _<_}
 use lib.ListN.{length, take, drop}
 use Rattle.std.proofs.shelf.Lists.{take-rest}
-use Rattle.lines.specs.Lines.{RunsTo, first-line, after-line}
-use Rattle.lines.proofs.Ends.{start, goes-on, ends-front, ends-back, all-front, all-back, runs}
+use Rattle.lines.specs.Lines.{RunsTo, first-line}
+use Rattle.lines.proofs.Ends.{ends-at, no-end, runs}
 use Rattle.lines.proofs.line.first_line.Needs as need
 
-pub loop-i-holds : need.loop-i-holds
-loop-i-holds c = start (c .args .input .now)
-
-pub loop-i-again : need.loop-i-again
-loop-i-again c = goes-on (c .args .input .now) (c .loop-i .i) (c .loop-i .inv) (omega arith) (c .if-byte-eq10 .left)
-
-pub returns-then-byte-eq10 : need.returns-then-byte-eq10
-returns-then-byte-eq10 c =
+pub returns-then-end-input : need.returns-then-end-input
+returns-then-end-input c =
     let input = c .args .input .now in
-    let front : take (c .loop-i .i - 0) input ≡ first-line input = rw sub-zero (ends-front input (c .loop-i .i) (c .loop-i .inv) (omega arith) (c .if-byte-eq10 .taken)) in
-    let back = take-rest input (c .loop-i .i + 1) ∙ ends-back input (c .loop-i .i) (c .loop-i .inv) (omega arith) (c .if-byte-eq10 .taken) in
-    record { line = front; rest = back; rule = subst₂ (RunsTo input) (sym front) (sym back) (runs input) }
+    let one = no-end input (λ k h. c .line-end-end .ensures .before k (omega arith)) in
+    record { line = one .0; rest = one .1; rule = subst₂ (RunsTo input) (sym (one .0)) (sym (one .1)) (runs input) }
 
 pub returns : need.returns
 returns c =
     let input = c .args .input .now in
-    let front = all-front input (c .loop-i .i) (c .loop-i .inv) (omega arith) in
-    let back = all-back input (c .loop-i .i) (c .loop-i .inv) (omega arith) in
-    record { line = front; rest = back; rule = subst₂ (RunsTo input) (sym front) (sym back) (runs input) }
+    let end = c .line-end-end .result in
+    let inside : end < length input = omega (arith, c .line-end-end .ensures .within) in
+    let cut = ends-at input end (c .line-end-end .ensures .before, inside, c .line-end-end .ensures .found inside) in
+    let line : take (end - 0) input ≡ first-line input = rw sub-zero (cut .0) in
+    let rest = take-rest input (end + 1) ∙ ap (λ k. drop k input) (add-one end) ∙ cut .1 in
+    record { line = line; rest = rest; rule = subst₂ (RunsTo input) (sym line) (sym rest) (runs input) }
