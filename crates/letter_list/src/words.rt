@@ -80,13 +80,15 @@ pub impl fmt::Display for Listed as ListedDisplay {
 pub impl fmt::Display for Damaged as DamagedDisplay {
     fn fmt<W: fmt::Write>(&self, f: &mut fmt::Formatter<W>) -> fmt::Result {
         let layer = match self.damage.layer {
-            Layer::Text => "layer 1 (text)",
-            Layer::Frame => "layer 2 (frame)",
+            Layer::Text => "text",
+            Layer::Frame => "frame",
         };
         write!(
             f,
-            "{:>5}          damaged      {layer}, column {}",
-            self.number, self.damage.column
+            "{:>5}          damaged      layer {} ({layer}), column {}",
+            self.number,
+            self.damage.layer.number(),
+            self.damage.column
         )
     }
 }

@@ -1,8 +1,10 @@
 // Letters as lines: one cutter and one writer for all kinds.
+ghost use mathlib.Core.Bool.{true};
 ghost use mathlib.Core.List.{_++_};
 ghost use mathlib.Core.Path.{_≡_};
 ghost use Prim.Native.Nat.{_*_, _≤_};
 ghost use lib.ListN.{length, drop};
+ghost use Rattle.std.specs.Results.{isOk};
 ghost use Rattle.std.specs.shelf.Lists.{All};
 ghost use Rattle.hex.specs.Hex.{Hex};
 ghost use Rattle.letters.specs.Layout.{Fits, line-of, size-at};
@@ -113,6 +115,7 @@ fn line_length<K: LetterKind>(letter: &Letter, kind: &K) -> usize
     requires { ⌜ now letter .body ≡ means (now kind) ⌝ }
     ensures line { λ r. ⌜ r ≡ length (line-of (now (letter .entry))) ⌝ }
     ensures size { λ r. ⌜ r ≡ 2 * size-at code ⌝ }
+    ensures few { λ r. ⌜ r ≤ 104 ⌝ }
 {
     let (_, length) = K::code_and_length();
     2 * length
@@ -135,7 +138,8 @@ fn put_kind<K: LetterKind>(letter: &Letter, kind: &K, out: &mut [u8])
 // Writes a letter of a kind, unless the buffer is too short for it.
 fn write_kind<K: LetterKind>(letter: &Letter, kind: &K, out: &mut [u8]) -> Result<usize, Refusal>
     requires { ⌜ now letter .body ≡ means (now kind) ⌝ }
-    ensures { λ r. ⌜ Written (line-of (now (letter .entry))) (now (out .entry)) (now (out .exit)) r ⌝ }
+    ensures written { λ r. ⌜ Written (line-of (now (letter .entry))) (now (out .entry)) (now (out .exit)) r ⌝ }
+    ensures room { λ r. ⌜ (104 ≤ length (now (out .entry)) → isOk r ≡ true) ⌝ }
 {
     let length = line_length(letter, kind);
     if out.len() < length {
@@ -168,7 +172,8 @@ impl Letter {
 
     // Writes the letter as a line, without its end, at the front of a buffer, and says how long it is.
     pub fn write(&self, out: &mut [u8]) -> Result<usize, Refusal>
-        ensures { λ r. ⌜ Written (line-of (now (self .entry))) (now (out .entry)) (now (out .exit)) r ⌝ }
+        ensures written { λ r. ⌜ Written (line-of (now (self .entry))) (now (out .entry)) (now (out .exit)) r ⌝ }
+        ensures room { λ r. ⌜ (104 ≤ length (now (out .entry)) → isOk r ≡ true) ⌝ }
     {
         match &self.body {
             Body::Send(kind) => write_kind(self, kind, out),

@@ -1,4 +1,3 @@
 pub mod Ends
 pub mod Fronts
 pub mod Kept
-pub mod Intakes

@@ -8,6 +8,13 @@ use Prim.Native.Nat.{ℕ, _+_, _%_, _≤_, _<_}
 use lib.Dec.{ltb}
 use lib.ListN.{length, getD, take}
 use Rattle.hex.specs.Hex.{Hex}
+use Rattle.lines.specs.declared.damage.Layer.{Layer}
+use Rattle.lines.specs.declared.damage.Layer.the-variants.{Text, Frame}
+
+-- the number of a layer
+abbrev pub layer-number : Layer → ℕ
+layer-number Text = 1
+layer-number Frame = 2
 
 -- a character that is not hexadecimal stands at this column, counted from 1
 abbrev pub Wrong : List ℕ → ℕ → Type 0

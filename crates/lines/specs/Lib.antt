@@ -2,4 +2,3 @@ pub mod Damage
 pub mod Lines
 pub mod Judged
 pub mod Buffer
-pub mod Intake

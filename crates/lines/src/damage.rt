@@ -1,9 +1,10 @@
 // Where a line is damaged. Layer 1 is its text, which is judged here; layer 2 is its frame.
 ghost use mathlib.Core.List.{List};
+ghost use mathlib.Core.Path.{_≡_};
 ghost use Prim.Native.Nat.{ℕ, _≤_};
 ghost use lib.ListN.{length};
 ghost use Rattle.std.specs.Options.{Cases as BySome};
-ghost use Rattle.lines.specs.Damage.{DamagedAt, Fronts, FrontApplies, FrontDamagedAt, Sound};
+ghost use Rattle.lines.specs.Damage.{DamagedAt, Fronts, FrontApplies, FrontDamagedAt, Sound, layer-number};
 
 // The most characters a line has.
 pub const LONGEST: usize = 512;
@@ -11,8 +12,20 @@ pub const LONGEST: usize = 512;
 // The layer of a line in which damage is found: its text is judged before its frame.
 #[derive(Clone, Copy, Debug, PartialEq, Eq)]
 pub enum Layer {
-    Text = 1,
-    Frame = 2,
+    Text,
+    Frame,
+}
+
+impl Layer {
+    // The number by which a layer is known outside the program.
+    pub fn number(self) -> u8
+        ensures { λ r. ⌜ r ≡ layer-number self ⌝ }
+    {
+        match self {
+            Layer::Text => 1,
+            Layer::Frame => 2,
+        }
+    }
 }
 
 // Where a line is damaged: the layer, and the column, counted from 1.

@@ -9,7 +9,7 @@ ghost use Rattle.listing.specs.declared.entry.Entry.{Entry};
 use crate::entry::Entry;
 use letters::letter::Body;
 use lines::damage::Layer;
-use lines::reader::LAST;
+use reader::input::LAST;
 
 // Letters by kind, notes, and lines damaged in their text or in their frame.
 #[derive(Clone, Copy)]
@@ -119,7 +119,7 @@ impl Tally {
 
     // Counts an entry, and says whether it did: no more than 65,535 are counted.
     pub fn count(&mut self, entry: Entry) -> bool
-        ensures { λ r. ⌜ When r ((es : List Entry) → Tallies es (now (self .entry)) → Tallies (es ++ entry ∷ []) (now (self .exit))) ((65535 ≤ lines-in (now (self .entry))) × (now (self .exit) ≡ now (self .entry))) ⌝ }
+        ensures { λ r. ⌜ When r ((lines-in (now (self .entry)) < 65535) × ((es : List Entry) → Tallies es (now (self .entry)) → Tallies (es ++ entry ∷ []) (now (self .exit)))) ((65535 ≤ lines-in (now (self .entry))) × (now (self .exit) ≡ now (self .entry))) ⌝ }
     {
         if self.lines() >= u32::from(LAST) {
             return false;

@@ -1,11 +1,11 @@
-// The lines of an input, one after the other.
+// The lines of an input that lies in memory, one after the other.
 ghost use mathlib.Core.Path.{_≡_};
 ghost use Prim.Native.Nat.{ℕ, _-_};
 ghost use lib.ListN.{length};
-ghost use Rattle.lines.specs.Judged.{Next};
+ghost use Rattle.reader.specs.Next.{Next};
 ghost use Rattle.lines.specs.Lines.{rest-after};
-use crate::line::Line;
-use crate::line::first_line;
+use lines::line::Line;
+use lines::line::first_line;
 
 // The most lines that are read of an input.
 pub const LAST: u16 = 65_535;

@@ -3,13 +3,13 @@ ghost use mathlib.Core.Bool.{true, false};
 ghost use mathlib.Core.List.{List, [], _∷_, _++_};
 ghost use mathlib.Core.Path.{_≡_};
 ghost use Prim.Native.Nat.{ℕ, _+_, _<_};
 ghost use Rattle.lines.specs.Buffer.{Holds};
-ghost use Rattle.lines.specs.Intake.{Came, Did};
+ghost use Rattle.reader.specs.Intake.{Came, Did};
 ghost use Rattle.lines.specs.Judged.{Judged};
 ghost use Rattle.lines.specs.Lines.{first-line, line-after};
-use crate::buffer::LineBuffer;
-use crate::line::Line;
-use crate::reader::LAST;
+use crate::input::LAST;
+use lines::buffer::LineBuffer;
+use lines::line::Line;
 
 // What a byte did to the line that comes in.
 #[derive(Clone, Copy, Debug, PartialEq, Eq)]

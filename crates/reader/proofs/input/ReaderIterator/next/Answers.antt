@@ -1,7 +1,7 @@
 use mathlib.Core.Path.{sym, ap, _∙_}
 use native.Mathlib.Numerals.{add-one}
 use Rattle.lines.specs.Lines.{after-line, rest-after}
-use Rattle.lines.proofs.reader.ReaderIterator.next.Needs as need
+use Rattle.reader.proofs.input.ReaderIterator.next.Needs as need
 
 pub ghost-self : need.ghost-self
 ghost-self c = (

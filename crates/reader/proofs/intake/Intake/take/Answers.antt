@@ -1,9 +1,9 @@
 use borrow.Author.Needs.{needs}
 use mathlib.Core.Path.{sym, subst}
 use mathlib.Core.List.{_++_}
 use Rattle.lines.specs.Buffer.{Holds}
-use Rattle.lines.proofs.Intakes.{open-line}
-use Rattle.lines.proofs.intake.Intake.take.Needs as need
+use Rattle.reader.proofs.Intakes.{open-line}
+use Rattle.reader.proofs.intake.Intake.take.Needs as need
 
 pub returns : need.returns
 returns c = record {

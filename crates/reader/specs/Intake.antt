@@ -7,11 +7,11 @@ use mathlib.Core.Path.{_≡_}
 use Prim.Native.Nat.{ℕ, zero, suc, _+_, _<_}
 use lib.ListN.{length}
 use Rattle.std.specs.shelf.Lists.{Has}
 use Rattle.lines.specs.Buffer.{Holds}
 use Rattle.lines.specs.Lines.{rest-after, line-after}
-use Rattle.lines.specs.declared.intake.Intake.{Intake}
-use Rattle.lines.specs.declared.intake.Progress.{Progress}
-use Rattle.lines.specs.declared.intake.Progress.the-variants.{Inside, Ended, Past}
+use Rattle.reader.specs.declared.intake.Intake.{Intake}
+use Rattle.reader.specs.declared.intake.Progress.{Progress}
+use Rattle.reader.specs.declared.intake.Progress.the-variants.{Inside, Ended, Past}
 
 -- where the line that has k lines before it stands: it has begun and no 0a (10) has come, or its 0a
 -- has come, and then nothing more has, unless it is line 65,535

@@ -4,9 +4,9 @@ use mathlib.Core.List.{[]}
 use mathlib.Core.Path.{refl, sym, subst}
 use Prim.Native.Nat.{_<_}
 use native.Mathlib.Omega.{arith}
-use Rattle.lines.specs.Intake.{Did}
-use Rattle.lines.proofs.Intakes.{goes-on, begins, did-begin, never-past, past-same}
-use Rattle.lines.proofs.intake.Intake.push.Needs as need
+use Rattle.reader.specs.Intake.{Did}
+use Rattle.reader.proofs.Intakes.{goes-on, begins, did-begin, never-past, past-same}
+use Rattle.reader.proofs.intake.Intake.push.Needs as need
 
 pub returns-then-self : need.returns-then-self
 returns-then-self c = record {

@@ -11,12 +11,12 @@ use Rattle.std.specs.shelf.Lists.{All, Has}
 use Rattle.std.proofs.shelf.Elements.{all-has, has-append-left, has-append-right, has-push, has-push-cases}
 use Rattle.std.proofs.shelf.Lists.{length-push}
 use Rattle.std.proofs.shelf.Tests.{ne-eqb, cond-false, cases-lt, both-ways}
 use Rattle.lines.specs.Buffer.{Holds}
-use Rattle.lines.specs.Intake.{Stands, Last, CameAs, Did, number-then}
+use Rattle.reader.specs.Intake.{Stands, Last, CameAs, Did, number-then}
 use Rattle.lines.specs.Lines.{first-line, after-line, rest-after, line-after}
-use Rattle.lines.specs.declared.intake.Progress.{Progress}
-use Rattle.lines.specs.declared.intake.Progress.the-variants.{Inside, Ended, Past}
+use Rattle.reader.specs.declared.intake.Progress.{Progress}
+use Rattle.reader.specs.declared.intake.Progress.the-variants.{Inside, Ended, Past}
 use Rattle.lines.proofs.Ends.{runs}
 
 -- bytes among which no 0a is
 abbrev Open : List ℕ → Type 0
