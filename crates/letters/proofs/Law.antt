@@ -16,7 +16,7 @@ use Rattle.hex.proofs.Digits.{digits-same, split-digits}
 use Rattle.lines.specs.Damage.{Applies, Sound}
 use Rattle.letters.specs.Parts.{Part, text, Fit}
 use Rattle.letters.specs.Layout.{code-of, parts-of, frame-of, line-of, size-at, Fits}
-use Rattle.letters.specs.Reading.{Begins, Cut, ReadsBack}
+use Rattle.letters.specs.Reading.{Begins, Cut, OnlyLine, ReadsBack}
 use Rattle.letters.specs.declared.letter.Body.{Body}
 use Rattle.letters.specs.declared.letter.Body.the-variants.{Send, Ack, Done, SkipShare, Skip, ViewChange}
 use Rattle.letters.specs.declared.letter.Letter.{Letter}
@@ -126,6 +126,10 @@ pub line-sound : (l : Letter) → Sound (line-of l)
 line-sound l column =
     ⊎-elim (λ w. w .3 (all-getD Hex (line-of l) (w .0) 0 (w .2) (line-hex l)))
     (⊎-elim (λ o. omega (arith, o .0, line-long l)) (λ o. omega (arith, o .0, line-long l, size-small (code-of (l .body)))))
+
+-- what reads as a letter is its line
+pub ok-only : {E : Type 0} (line : List ℕ) (m : Letter) → line ≡ line-of m → OnlyLine {E = E} line (Ok m)
+ok-only line m h l e = let same : m ≡ l = cc in h ∙ ap line-of same
 
 pub err-not-ok : {A B : Type 0} (e : B) (x : A) → _≡_ {A = Result A B} (Err e) (Ok x) → ⊥
 err-not-ok e x h = let z : _≡_ {A = ℕ} 0 1 = cc in omega arith

@@ -56,7 +56,11 @@ abbrev pub Read : List ℕ → Result Letter Damage → Type 0
 Read line (Ok l) = (line ≡ line-of l) × Fits l
 Read line (Err d) = DamagedIn (d .layer) line (d .column)
 
--- the line of a letter reads as that letter
+-- the law, one way: a line that reads as a letter is that letter's line, so no other line reads as it
+abbrev pub OnlyLine : {E : Type 0} → List ℕ → Result Letter E → Type 0
+OnlyLine line r = (l : Letter) → r ≡ Ok l → line ≡ line-of l
+
+-- the law, the other way: the line of a letter reads as that letter
 abbrev pub ReadsBack : {E : Type 0} → List ℕ → Result Letter E → Type 0
 ReadsBack line r = (l : Letter) → Fits l → line ≡ line-of l → r ≡ Ok l
 

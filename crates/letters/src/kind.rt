@@ -17,6 +17,8 @@ use crate::letter::SkipShare;
 use crate::letter::ViewChange;
 use crate::pen::Pen;
 
+// A kind of letter: its constants, and its fields read and written in their order. `code` and `means`
+// tie it to the layout, which stands in specs/Layout.antt alone.
 pub(crate) trait LetterKind: Sized {
     // What a line of the kind begins with.
     const CODE: u8;

@@ -60,6 +60,7 @@ pub struct ViewChange {
     pub commit: Holding,
 }
 
+// What a letter says after its view, by kind.
 #[derive(Clone, Copy, Debug, PartialEq, Eq)]
 pub enum Body {
     Send(Send),

@@ -9,12 +9,12 @@ use lib.Dec.{ltb}
 use lib.ListN.{length, take, set}
 use Rattle.std.proofs.shelf.Lists.{length-set, length-push, take-all, take-more-set, take-append-le}
 use Rattle.std.proofs.shelf.Tests.{cases-lt, lt-ltb, le-ltb}
-use Rattle.lines.specs.Buffer.{Holds}
+use Rattle.lines.specs.Buffer.{Kept}
 use Rattle.lines.specs.Damage.{Fronts}
 
-module _ (places line : List ℕ) (count : ℕ) (k : Holds places count line) where
-  pub holds-place : (byte : ℕ) → count < 512 → Holds (set places count byte) (count + 1) (line ++ byte ∷ [])
-  holds-place byte h = (
+module _ (places line : List ℕ) (count : ℕ) (k : Kept places count line) where
+  pub kept-place : (byte : ℕ) → count < 512 → Kept (set places count byte) (count + 1) (line ++ byte ∷ [])
+  kept-place byte h = (
     length-set places count byte ∙ k .0,
     omega (arith, length-push line byte, k .1),
     take-more-set places count byte (omega (arith, k .0))
@@ -22,8 +22,8 @@ module _ (places line : List ℕ) (count : ℕ) (k : Holds places count line) wh
         ∙ sym (take-all 512 (line ++ byte ∷ []) (omega (arith, length-push line byte, k .1))),
   )
 
-  pub holds-count : (byte : ℕ) → 512 ≤ count → Holds places 513 (line ++ byte ∷ [])
-  holds-count byte h = (
+  pub kept-count : (byte : ℕ) → 512 ≤ count → Kept places 513 (line ++ byte ∷ [])
+  kept-count byte h = (
     k .0,
     omega (arith, length-push line byte, k .1),
     take-all 513 places (omega (arith, k .0)) ∙ sym (take-all count places (omega (arith, k .0))) ∙ k .2
@@ -31,8 +31,8 @@ module _ (places line : List ℕ) (count : ℕ) (k : Holds places count line) wh
   )
 
   -- what is kept, as the code cuts it, is the line's front
-  pub holds-front : (n : ℕ) → n ≡ min count 512 → Fronts (take (n - 0) places) (ltb 512 count) line
-  holds-front n e =
+  pub kept-front : (n : ℕ) → n ≡ min count 512 → Fronts (take (n - 0) places) (ltb 512 count) line
+  kept-front n e =
       ⊎-elim
       (λ h.
       let m : n - 0 ≡ 512 = omega arith in (

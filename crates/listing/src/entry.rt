@@ -8,6 +8,7 @@ use lines::damage::Damage;
 use lines::damage::Layer;
 use lines::line::Line;
 
+// A note, a letter, or where the line is damaged.
 #[derive(Clone, Copy)]
 pub enum Entry {
     Note,

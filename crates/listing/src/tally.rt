@@ -26,6 +26,7 @@ pub struct Tally {
 }
 
 impl Tally {
+    // Nothing counted.
     pub fn new() -> Tally
         ensures { λ r. ⌜ Tallies [] r ⌝ }
     {

@@ -11,7 +11,7 @@ use Rattle.std.specs.shelf.Lists.{All, Has}
 use Rattle.std.proofs.shelf.Elements.{all-has, has-append-left, has-append-right, has-push, has-push-cases}
 use Rattle.std.proofs.shelf.Lists.{length-push}
 use Rattle.std.proofs.shelf.Tests.{ne-eqb, cond-false, cases-lt, both-ways}
-use Rattle.lines.specs.Buffer.{Holds}
+use Rattle.lines.specs.Buffer.{Kept}
 use Rattle.reader.specs.Intake.{Stands, Last, CameAs, Did, number-then}
 use Rattle.lines.specs.Lines.{first-line, after-line, rest-after, line-after}
 use Rattle.reader.specs.declared.intake.Progress.{Progress}
@@ -80,11 +80,11 @@ module _ (input : List ℕ) (k byte : ℕ) (r : Ready input k) where
   rest : rest-after k (input ++ byte ∷ []) ≡ rest-after k input ++ byte ∷ []
   rest = rest-more k input (byte ∷ []) (r .whole)
 
-  last : (places : List ℕ) (count : ℕ) (o : Bool) → Holds places count (rest-after k input ++ first-line (byte ∷ [])) → Stands (input ++ byte ∷ []) k o → Last (input ++ byte ∷ []) places count k o
+  last : (places : List ℕ) (count : ℕ) (o : Bool) → Kept places count (rest-after k input ++ first-line (byte ∷ [])) → Stands (input ++ byte ∷ []) k o → Last (input ++ byte ∷ []) places count k o
   last places count o h s = record {
     few = r .few;
     whole = whole-still k input (byte ∷ []) (r .whole);
-    held = subst (Holds places count) (sym (ap first-line rest ∙ open-more (rest-after k input) (byte ∷ []) (r .rest) .0)) h;
+    held = subst (Kept places count) (sym (ap first-line rest ∙ open-more (rest-after k input) (byte ∷ []) (r .rest) .0)) h;
     stands = s;
   }
 
@@ -101,18 +101,18 @@ module _ (input : List ℕ) (k byte : ℕ) (r : Ready input k) where
   )
 
   -- the open line takes a byte
-  pub takes : (places : List ℕ) (count number number′ : ℕ) (opened : Bool) (p : Progress) → number ≡ k + 1 → Holds places count (rest-after k input ++ first-line (byte ∷ [])) → Did true number byte opened number′ p → CameAs (input ++ byte ∷ []) places count number′ opened
+  pub takes : (places : List ℕ) (count number number′ : ℕ) (opened : Bool) (p : Progress) → number ≡ k + 1 → Kept places count (rest-after k input ++ first-line (byte ∷ [])) → Did true number byte opened number′ p → CameAs (input ++ byte ∷ []) places count number′ opened
   takes places count number number′ opened Inside n h d = came-at _ places count k number′ opened true (d .3 ∙ n) (d .2) (last places count true h (inside (d .1)))
   takes places count number number′ opened Ended n h d = came-at _ places count k number′ opened false (d .3 ∙ n) (d .2) (last places count false h (ended (d .1)))
   takes places count number number′ opened Past n h d = absurd (both-ways true (d .0) refl)
 
 -- a line is open: it is ready, and the buffer holds what came of it
-opened-ready : (input places : List ℕ) (count number : ℕ) (opened : Bool) → opened ≡ true → CameAs input places count number opened → (k : ℕ) × (number ≡ k + 1) × Ready input k × Holds places count (rest-after k input)
+opened-ready : (input places : List ℕ) (count number : ℕ) (opened : Bool) → opened ≡ true → CameAs input places count number opened → (k : ℕ) × (number ≡ k + 1) × Ready input k × Kept places count (rest-after k input)
 opened-ready input places count zero opened e c = absurd (both-ways opened (c .1) e)
 opened-ready input places count (suc k) opened e c =
     let s : Stands input k true = subst (Stands input k) e (c .stands) in
     let n = open-from (rest-after k input) (s .1) in
-    (k, sym (add-one k), record { few = c .few; whole = c .whole; rest = n }, subst (Holds places count) (open-line (rest-after k input) n) (c .held))
+    (k, sym (add-one k), record { few = c .few; whole = c .whole; rest = n }, subst (Kept places count) (open-line (rest-after k input) n) (c .held))
 
 -- no line is open, and there is room for one: nothing has come of it
 closed-rest : (input places : List ℕ) (count number : ℕ) (opened : Bool) → opened ≡ false → number < 65535 → CameAs input places count number opened → Whole number input × (rest-after number input ≡ [])
@@ -125,15 +125,15 @@ closed-rest input places count (suc k) opened e h c =
 
 -- the state before a byte, whether a line was open, and the state after it, where the byte was taken
 module _ (input places places′ : List ℕ) (count count′ byte number number′ : ℕ) (was opened : Bool) (p : Progress) where
-  pub goes-on : was ≡ true → ((line : List ℕ) → Holds places count line → Holds places′ count′ (line ++ first-line (byte ∷ []))) → Did true number byte opened number′ p → CameAs input places count number was → CameAs (input ++ byte ∷ []) places′ count′ number′ opened
+  pub goes-on : was ≡ true → ((line : List ℕ) → Kept places count line → Kept places′ count′ (line ++ first-line (byte ∷ []))) → Did true number byte opened number′ p → CameAs input places count number was → CameAs (input ++ byte ∷ []) places′ count′ number′ opened
   goes-on e took did c =
       let r = opened-ready input places count number was e c in
       takes input (r .0) byte (r .2) places′ count′ number number′ opened p (r .1) (took (rest-after (r .0) input) (r .3)) did
 
-  pub begins : was ≡ false → number < 65535 → Holds places′ count′ (first-line (byte ∷ [])) → Did true (number + 1) byte opened number′ p → CameAs input places count number was → CameAs (input ++ byte ∷ []) places′ count′ number′ opened
+  pub begins : was ≡ false → number < 65535 → Kept places′ count′ (first-line (byte ∷ [])) → Did true (number + 1) byte opened number′ p → CameAs input places count number was → CameAs (input ++ byte ∷ []) places′ count′ number′ opened
   begins e h held did c =
       let r = closed-rest input places count number was e h c in
-      takes input number byte (record { few = h; whole = r .0; rest = subst Open (sym (r .1)) tt }) places′ count′ (number + 1) number′ opened p refl (subst (λ l. Holds places′ count′ (l ++ first-line (byte ∷ []))) (sym (r .1)) held) did
+      takes input number byte (record { few = h; whole = r .0; rest = subst Open (sym (r .1)) tt }) places′ count′ (number + 1) number′ opened p refl (subst (λ l. Kept places′ count′ (l ++ first-line (byte ∷ []))) (sym (r .1)) held) did
 
 -- the first byte of a line did what it does in the line
 pub did-begin : (number byte number′ : ℕ) (was opened : Bool) (p : Progress) → was ≡ false → number < 65535 → Did true (number + 1) byte opened number′ p → Did was number byte opened number′ p
@@ -153,6 +153,6 @@ past-same input places count (suc k) byte opened e n c =
     record {
       few = c .few;
       whole = whole-still k input (byte ∷ []) (c .whole);
-      held = subst (Holds places count) (sym (ap first-line (rest-more k input (byte ∷ []) (c .whole)) ∙ whole-more (rest-after k input) (byte ∷ []) (s .0) .0)) (c .held);
+      held = subst (Kept places count) (sym (ap first-line (rest-more k input (byte ∷ []) (c .whole)) ∙ whole-more (rest-after k input) (byte ∷ []) (s .0) .0)) (c .held);
       stands = subst (Stands (input ++ byte ∷ []) k) (sym e) (has-more k input (byte ∷ []) (c .whole) (s .0), inr n);
     }

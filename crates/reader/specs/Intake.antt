@@ -7,7 +7,7 @@ use mathlib.Core.Path.{_≡_}
 use Prim.Native.Nat.{ℕ, zero, suc, _+_, _<_}
 use lib.ListN.{length}
 use Rattle.std.specs.shelf.Lists.{Has}
-use Rattle.lines.specs.Buffer.{Holds}
+use Rattle.lines.specs.Buffer.{Kept}
 use Rattle.lines.specs.Lines.{rest-after, line-after}
 use Rattle.reader.specs.declared.intake.Intake.{Intake}
 use Rattle.reader.specs.declared.intake.Progress.{Progress}
@@ -23,7 +23,7 @@ Stands input k false = Has (rest-after k input) 10 × ((rest-after (suc k) input
 pub record Last (input places : List ℕ) (count k : ℕ) (opened : Bool) : Type 0 where
   pub few : k < 65535
   pub whole : (j : ℕ) → j < k → Has (rest-after j input) 10
-  pub held : Holds places count (line-after k input)
+  pub held : Kept places count (line-after k input)
   pub stands : Stands input k opened
 
 -- this input came in: nothing, or a last line, whose number counts it too

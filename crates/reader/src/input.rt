@@ -20,6 +20,7 @@ pub struct Reader<'a> {
 }
 
 impl<'a> Reader<'a> {
+    // A reader at the start of an input.
     pub fn new(input: &'a [u8]) -> Reader<'a>
         ensures input { λ r. ⌜ now (r .input) ≡ now (input .entry) ⌝ }
         ensures number { λ r. ⌜ r .number ≡ 0 ⌝ }

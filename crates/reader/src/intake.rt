@@ -61,7 +61,7 @@ impl Intake {
     // Opens the next line.
     fn begin(&mut self)
         requires { ⌜ now self .number < 65535 ⌝ }
-        ensures held { λ _. ⌜ Holds (now (self .exit) .line .places) (now (self .exit) .line .count) [] ⌝ }
+        ensures held { λ _. ⌜ Holds (now (self .exit) .line) [] ⌝ }
         ensures number { λ _. ⌜ now (self .exit) .number ≡ now (self .entry) .number + 1 ⌝ }
         ensures opened { λ _. ⌜ now (self .exit) .open ≡ true ⌝ }
     {
@@ -73,7 +73,7 @@ impl Intake {
     // One byte more of the line that is open.
     fn take(&mut self, byte: u8) -> Progress
         requires { ⌜ now self .open ≡ true ⌝ }
-        ensures held { λ _. ⌜ ((line : List ℕ) → Holds (now (self .entry) .line .places) (now (self .entry) .line .count) line → Holds (now (self .exit) .line .places) (now (self .exit) .line .count) (line ++ first-line (byte ∷ []))) ⌝ }
+        ensures held { λ _. ⌜ ((line : List ℕ) → Holds (now (self .entry) .line) line → Holds (now (self .exit) .line) (line ++ first-line (byte ∷ []))) ⌝ }
         ensures did { λ r. ⌜ Did true (now (self .entry) .number) byte (now (self .exit) .open) (now (self .exit) .number) r ⌝ }
     {
         if byte == b'\n' {
