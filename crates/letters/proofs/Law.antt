@@ -58,7 +58,7 @@ widths-at c =
     (cond (eqb c 21) (8 ∷ []) (8 ∷ 8 ∷ 8 ∷ 8 ∷ 8 ∷ 8 ∷ [])))))
 
 -- the letter with this code and these numbers after it
-abbrev body-at : ℕ → List ℕ → Body
+abbrev pub body-at : ℕ → List ℕ → Body
 body-at c vs =
     cond (eqb c 17) (Send (record { step = getD vs 2 0; edition = getD vs 3 0; «key_view» = getD vs 4 0; mask = getD vs 5 0 }))
     (cond (eqb c 18) (Ack (record { lead = getD vs 2 0; step = getD vs 3 0; edition = getD vs 4 0 }))
@@ -67,7 +67,7 @@ body-at c vs =
     (cond (eqb c 21) (Skip (record { mask = getD vs 2 0 }))
     (ViewChange (record { key = record { edition = getD vs 2 0; mask = getD vs 3 0 }; lock = record { edition = getD vs 4 0; mask = getD vs 5 0 }; commit = record { edition = getD vs 6 0; mask = getD vs 7 0 } }))))))
 
-abbrev letter-at : ℕ → List ℕ → Letter
+abbrev pub letter-at : ℕ → List ℕ → Letter
 letter-at c vs = record { sender = getD vs 0 0; view = getD vs 1 0; body = body-at c vs }
 
 -- the parts after the code
@@ -94,7 +94,7 @@ letter-is : (l : Letter) → letter-at (code-of (l .body)) (map value (rest-of l
 letter-is l = ap (λ b. record { sender = l .sender; view = l .view; body = b }) (body-is (l .body) (l .sender) (l .view))
 
 -- two letters with one line are one letter
-line-same : (l m : Letter) → Fits l → Fits m → line-of l ≡ line-of m → l ≡ m
+pub line-same : (l m : Letter) → Fits l → Fits m → line-of l ≡ line-of m → l ≡ m
 line-same l m f h e =
     let d = split-digits 2 (code-of (l .body)) (code-of (m .body)) (text (rest-of l)) (text (rest-of m)) e in
     let c = digits-same 2 (code-of (l .body)) (code-of (m .body)) (f .0) (h .0) (d .0) in

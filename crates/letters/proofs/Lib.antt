@@ -1,3 +1,4 @@
 pub mod Buffers
 pub mod Frames
 pub mod Law
+pub mod Sole

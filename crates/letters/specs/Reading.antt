@@ -56,6 +56,10 @@ abbrev pub Read : List ℕ → Result Letter Damage → Type 0
 Read line (Ok l) = (line ≡ line-of l) × Fits l
 Read line (Err d) = DamagedIn (d .layer) line (d .column)
 
+-- the rule leaves no choice: no other answer meets it
+abbrev pub Sole : List ℕ → Result Letter Damage → Type 0
+Sole line r = (s : Result Letter Damage) → Read line s → s ≡ r
+
 -- the law, one way: a line that reads as a letter is that letter's line, so no other line reads as it
 abbrev pub OnlyLine : {E : Type 0} → List ℕ → Result Letter E → Type 0
 OnlyLine line r = (l : Letter) → r ≡ Ok l → line ≡ line-of l

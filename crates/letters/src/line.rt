@@ -8,7 +8,7 @@ ghost use Rattle.std.specs.Results.{isOk};
 ghost use Rattle.std.specs.shelf.Lists.{All};
 ghost use Rattle.hex.specs.Hex.{Hex};
 ghost use Rattle.letters.specs.Layout.{Fits, line-of, size-at};
-ghost use Rattle.letters.specs.Reading.{Begins, Cut, OnlyLine, Read, ReadsBack, Written, column-of};
+ghost use Rattle.letters.specs.Reading.{Begins, Cut, OnlyLine, Read, ReadsBack, Sole, Written, column-of};
 use crate::fields::Fields;
 use crate::kind::AckKind;
 use crate::kind::DoneKind;
@@ -153,6 +153,7 @@ impl Letter {
     // Reads a line, given without its end, as a letter.
     pub fn read(line: &[u8]) -> Result<Letter, Damage>
         ensures read { λ r. ⌜ Read (now (line .entry)) r ⌝ }
+        ensures sole { λ r. ⌜ Sole (now (line .entry)) r ⌝ }
         ensures only { λ r. ⌜ OnlyLine (now (line .entry)) r ⌝ }
         ensures back { λ r. ⌜ ReadsBack (now (line .entry)) r ⌝ }
     {
