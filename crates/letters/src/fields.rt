@@ -6,6 +6,7 @@ ghost use lib.ListN.{length};
 ghost use Rattle.std.specs.shelf.Lists.{All};
 ghost use Rattle.hex.specs.Hex.{Hex, digits};
 ghost use Rattle.letters.specs.Parts.{Has, Took, byte, long, short};
+use crate::letter::Holding;
 
 // What is left of a frame's text.
 #[derive(Drop)]
@@ -50,5 +51,15 @@ impl Fields<'_> {
         ensures { λ r. ⌜ Took (long r ∷ []) (now (now (self .entry) .rest)) (now (now (self .exit) .rest)) ⌝ }
     {
         self.number(16)
+    }
+
+    pub(crate) fn holding(&mut self) -> Holding
+        requires { ⌜ Has 32 (now (now self .rest)) ⌝ }
+        ensures { λ r. ⌜ Took (long (r .edition) ∷ long (r .mask) ∷ []) (now (now (self .entry) .rest)) (now (now (self .exit) .rest)) ⌝ }
+    {
+        Holding {
+            edition: self.long(),
+            mask: self.long(),
+        }
     }
 }

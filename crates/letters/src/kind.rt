@@ -10,7 +10,6 @@ use crate::fields::Fields;
 use crate::letter::Ack;
 use crate::letter::Body;
 use crate::letter::Done;
-use crate::letter::Holding;
 use crate::letter::Send;
 use crate::letter::Skip;
 use crate::letter::SkipShare;
@@ -221,27 +220,15 @@ pub(crate) impl LetterKind for ViewChange as ViewChangeKind {
 
     fn read(fields: &mut Fields) -> ViewChange {
         ViewChange {
-            key: Holding {
-                edition: fields.long(),
-                mask: fields.long(),
-            },
-            lock: Holding {
-                edition: fields.long(),
-                mask: fields.long(),
-            },
-            commit: Holding {
-                edition: fields.long(),
-                mask: fields.long(),
-            },
+            key: fields.holding(),
+            lock: fields.holding(),
+            commit: fields.holding(),
         }
     }
 
     fn write(&self, pen: &mut Pen) {
-        pen.long(self.key.edition);
-        pen.long(self.key.mask);
-        pen.long(self.lock.edition);
-        pen.long(self.lock.mask);
-        pen.long(self.commit.edition);
-        pen.long(self.commit.mask);
+        pen.holding(self.key);
+        pen.holding(self.lock);
+        pen.holding(self.commit);
     }
 }

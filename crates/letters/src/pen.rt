@@ -6,6 +6,7 @@ ghost use denote.Ref.{name};
 ghost use lib.ListN.{length, take, drop};
 ghost use Rattle.hex.specs.Hex.{digits};
 ghost use Rattle.letters.specs.Parts.{Wrote, byte, long, short};
+use crate::letter::Holding;
 
 // A buffer, and how much of it is written.
 #[derive(Drop)]
@@ -53,5 +54,14 @@ impl Pen<'_> {
         ensures wrote { λ _. ⌜ Wrote (long value ∷ []) (now (self .entry) .at) (now (self .exit) .at) (now (now (self .entry) .out)) (now (now (self .exit) .out)) ⌝ }
     {
         self.number(16, value);
+    }
+
+    pub(crate) fn holding(&mut self, value: Holding)
+        requires { ⌜ now self .at + 32 ≤ length (now (now self .out)) ⌝ }
+        ensures same { λ _. ⌜ name (now (self .exit) .out) ≡ name (now (self .entry) .out) ⌝ }
+        ensures wrote { λ _. ⌜ Wrote (long (value .edition) ∷ long (value .mask) ∷ []) (now (self .entry) .at) (now (self .exit) .at) (now (now (self .entry) .out)) (now (now (self .exit) .out)) ⌝ }
+    {
+        self.long(value.edition);
+        self.long(value.mask);
     }
 }
