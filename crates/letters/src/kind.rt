@@ -33,11 +33,6 @@ pub(crate) trait LetterKind: Sized {
 
     law known: { 4 ≤ size-at code };
 
-    // The two constants, as a call: generic code knows of a constant only that it is a number.
-    fn code_and_length() -> (u8, usize)
-        ensures code { λ r. ⌜ r .0 ≡ code ⌝ }
-        ensures length { λ r. ⌜ r .1 ≡ size-at code ⌝ };
-
     fn into_body(self) -> Body
         ensures { λ r. ⌜ r ≡ means self ⌝ };
 
@@ -61,10 +56,6 @@ pub(crate) impl LetterKind for Send as SendKind {
     ghost code = { 17 };
 
     ghost means = { λ k. Body.Send k };
-
-    fn code_and_length() -> (u8, usize) {
-        (Self::CODE, Self::LENGTH)
-    }
 
     fn into_body(self) -> Body {
         Body::Send(self)
@@ -96,10 +87,6 @@ pub(crate) impl LetterKind for Ack as AckKind {
 
     ghost means = { λ k. Body.Ack k };
 
-    fn code_and_length() -> (u8, usize) {
-        (Self::CODE, Self::LENGTH)
-    }
-
     fn into_body(self) -> Body {
         Body::Ack(self)
     }
@@ -128,10 +115,6 @@ pub(crate) impl LetterKind for Done as DoneKind {
 
     ghost means = { λ k. Body.Done k };
 
-    fn code_and_length() -> (u8, usize) {
-        (Self::CODE, Self::LENGTH)
-    }
-
     fn into_body(self) -> Body {
         Body::Done(self)
     }
@@ -158,10 +141,6 @@ pub(crate) impl LetterKind for SkipShare as SkipShareKind {
 
     ghost means = { λ k. Body.SkipShare k };
 
-    fn code_and_length() -> (u8, usize) {
-        (Self::CODE, Self::LENGTH)
-    }
-
     fn into_body(self) -> Body {
         Body::SkipShare(self)
     }
@@ -181,10 +160,6 @@ pub(crate) impl LetterKind for Skip as SkipKind {
     ghost code = { 21 };
 
     ghost means = { λ k. Body.Skip k };
-
-    fn code_and_length() -> (u8, usize) {
-        (Self::CODE, Self::LENGTH)
-    }
 
     fn into_body(self) -> Body {
         Body::Skip(self)
@@ -209,10 +184,6 @@ pub(crate) impl LetterKind for ViewChange as ViewChangeKind {
     ghost code = { 22 };
 
     ghost means = { λ k. Body.ViewChange k };
-
-    fn code_and_length() -> (u8, usize) {
-        (Self::CODE, Self::LENGTH)
-    }
 
     fn into_body(self) -> Body {
         Body::ViewChange(self)

@@ -56,14 +56,15 @@ fn cut_fields<K: LetterKind>(line: &[u8]) -> Letter
     Letter { sender, view, body }
 }
 
-// Cuts a line, which begins with the kind's code, into a letter of that kind.
-fn cut<K: LetterKind>(line: &[u8]) -> Result<Letter, Fault>
+// Cuts a line, which begins with the kind's code, into a letter of that kind. `BYTES` is the kind's
+// length: generic code knows of a bound's constant only that it is a number, so it is handed in.
+fn cut<K: LetterKind, const BYTES: usize>(line: &[u8]) -> Result<Letter, Fault>
     requires hex { ⌜ All Hex (now line) ⌝ }
     requires begins { ⌜ Begins (now line) code ⌝ }
+    requires bytes { ⌜ BYTES ≡ size-at code ⌝ }
     ensures { λ r. ⌜ Cut (now (line .entry)) r ⌝ }
 {
-    let (_, length) = K::code_and_length();
-    if line.len() != 2 * length {
+    if line.len() != 2 * BYTES {
         return Err(Fault::Length);
     }
     Ok(cut_fields::<K>(line))
@@ -77,12 +78,12 @@ fn cut_coded(code: u8, line: &[u8]) -> Result<Letter, Fault>
     ensures { λ r. ⌜ Cut (now (line .entry)) r ⌝ }
 {
     match code {
-        Send::CODE => cut::<Send>(line),
-        Ack::CODE => cut::<Ack>(line),
-        Done::CODE => cut::<Done>(line),
-        SkipShare::CODE => cut::<SkipShare>(line),
-        Skip::CODE => cut::<Skip>(line),
-        ViewChange::CODE => cut::<ViewChange>(line),
+        Send::CODE => cut::<Send, { Send::LENGTH }>(line),
+        Ack::CODE => cut::<Ack, { Ack::LENGTH }>(line),
+        Done::CODE => cut::<Done, { Done::LENGTH }>(line),
+        SkipShare::CODE => cut::<SkipShare, { SkipShare::LENGTH }>(line),
+        Skip::CODE => cut::<Skip, { Skip::LENGTH }>(line),
+        ViewChange::CODE => cut::<ViewChange, { ViewChange::LENGTH }>(line),
         _ => Err(Fault::Code),
     }
 }
@@ -111,14 +112,14 @@ fn fault_column(fault: Fault, line: &[u8]) -> u16
 }
 
 // How many characters the line of a letter of a kind has.
-fn line_length<K: LetterKind>(letter: &Letter, kind: &K) -> usize
-    requires { ⌜ now letter .body ≡ means (now kind) ⌝ }
+fn line_length<K: LetterKind, const BYTES: usize>(letter: &Letter, kind: &K) -> usize
+    requires kind { ⌜ now letter .body ≡ means (now kind) ⌝ }
+    requires bytes { ⌜ BYTES ≡ size-at code ⌝ }
     ensures line { λ r. ⌜ r ≡ length (line-of (now (letter .entry))) ⌝ }
     ensures size { λ r. ⌜ r ≡ 2 * size-at code ⌝ }
     ensures few { λ r. ⌜ r ≤ 104 ⌝ }
 {
-    let (_, length) = K::code_and_length();
-    2 * length
+    2 * BYTES
 }
 
 // Writes a letter of a kind at the front of a buffer that has room for it.
@@ -127,21 +128,25 @@ fn put_kind<K: LetterKind>(letter: &Letter, kind: &K, out: &mut [u8])
     requires room { ⌜ 2 * size-at code ≤ length (now out) ⌝ }
     ensures { λ _. ⌜ now (out .exit) ≡ line-of (now (letter .entry)) ++ drop (2 * size-at code) (now (out .entry)) ⌝ }
 {
-    let (code, _) = K::code_and_length();
     let mut pen = Pen { out, at: 0 };
-    pen.byte(code);
+    pen.byte(letter.body.code());
     pen.byte(letter.sender);
     pen.short(letter.view);
     kind.write(&mut pen);
 }
 
 // Writes a letter of a kind, unless the buffer is too short for it.
-fn write_kind<K: LetterKind>(letter: &Letter, kind: &K, out: &mut [u8]) -> Result<usize, Refusal>
-    requires { ⌜ now letter .body ≡ means (now kind) ⌝ }
+fn write_kind<K: LetterKind, const BYTES: usize>(
+    letter: &Letter,
+    kind: &K,
+    out: &mut [u8],
+) -> Result<usize, Refusal>
+    requires kind { ⌜ now letter .body ≡ means (now kind) ⌝ }
+    requires bytes { ⌜ BYTES ≡ size-at code ⌝ }
     ensures written { λ r. ⌜ Written (line-of (now (letter .entry))) (now (out .entry)) (now (out .exit)) r ⌝ }
     ensures room { λ r. ⌜ (104 ≤ length (now (out .entry)) → isOk r ≡ true) ⌝ }
 {
-    let length = line_length(letter, kind);
+    let length = line_length::<K, BYTES>(letter, kind);
     if out.len() < length {
         return Err(Refusal::BufferTooShort);
     }
@@ -178,12 +183,20 @@ impl Letter {
         ensures room { λ r. ⌜ (104 ≤ length (now (out .entry)) → isOk r ≡ true) ⌝ }
     {
         match &self.body {
-            Body::Send(kind) => write_kind(self, kind, out),
-            Body::Ack(kind) => write_kind(self, kind, out),
-            Body::Done(kind) => write_kind(self, kind, out),
-            Body::SkipShare(kind) => write_kind(self, kind, out),
-            Body::Skip(kind) => write_kind(self, kind, out),
-            Body::ViewChange(kind) => write_kind(self, kind, out),
+            Body::Send(kind) => write_kind::<Send, { Send::LENGTH }>(self, kind, out),
+            Body::Ack(kind) => write_kind::<Ack, { Ack::LENGTH }>(self, kind, out),
+            Body::Done(kind) => write_kind::<Done, { Done::LENGTH }>(self, kind, out),
+            Body::SkipShare(kind) => write_kind::<SkipShare, { SkipShare::LENGTH }>(
+                self,
+                kind,
+                out,
+            ),
+            Body::Skip(kind) => write_kind::<Skip, { Skip::LENGTH }>(self, kind, out),
+            Body::ViewChange(kind) => write_kind::<ViewChange, { ViewChange::LENGTH }>(
+                self,
+                kind,
+                out,
+            ),
         }
     }
 }

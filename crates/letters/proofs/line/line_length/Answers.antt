@@ -6,9 +6,9 @@ use Rattle.letters.proofs.line.line_length.Needs as need
 
 pub returns : need.returns
 returns g c =
-    let size = ap size-at (ap code-of (c .pre) ∙ g .K·LetterKind·met .coded (c .args .kind .now)) in
+    let size = ap size-at (ap code-of (c .pre .kind) ∙ g .K·LetterKind·met .coded (c .args .kind .now)) in
     record {
-      line = omega (arith, line-long (c .args .letter .now), size, c .code-and-length-length .ensures .length);
-      size = omega (arith, c .code-and-length-length .ensures .length);
-      few = omega (arith, size-small (g .K·LetterKind .code), c .code-and-length-length .ensures .length);
+      line = omega (arith, line-long (c .args .letter .now), size, c .pre .bytes);
+      size = omega (arith, c .pre .bytes);
+      few = omega (arith, size-small (g .K·LetterKind .code), c .pre .bytes);
     }

@@ -14,7 +14,7 @@ returns g c =
     let size = ap size-at code in
     let parts = wrote-more (c .byte .ensures .wrote) (wrote-more (c .byte-2 .ensures .wrote) (wrote-more (c .short .ensures .wrote) (c .write .ensures .wrote))) in
     let frame =
-    subst (λ n. Wrote (byte n ∷ byte (letter .sender) ∷ short (letter .view) ∷ parts-of (letter .body)) 0 (c .write .last .pen .at) (c .args .out .now) (c .write .last .pen .out .now)) (c .code-and-length-code .ensures .code ∙ sym code)
-    (subst (λ b. Wrote (byte (c .code-and-length-code .result .0) ∷ byte (letter .sender) ∷ short (letter .view) ∷ parts-of b) 0 (c .write .last .pen .at) (c .args .out .now) (c .write .last .pen .out .now)) (sym (c .pre .kind)) parts)
+    subst (λ n. Wrote (byte n ∷ byte (letter .sender) ∷ short (letter .view) ∷ parts-of (letter .body)) 0 (c .write .last .pen .at) (c .args .out .now) (c .write .last .pen .out .now)) (c .code .ensures)
+    (subst (λ b. Wrote (byte (c .code .result) ∷ byte (letter .sender) ∷ short (letter .view) ∷ parts-of b) 0 (c .write .last .pen .at) (c .args .out .now) (c .write .last .pen .out .now)) (sym (c .pre .kind)) parts)
     in
     written _ (c .write .last .pen .out .now) (c .args .out .now) (c .write .last .pen .at) _ (frame-of letter) (search needs) (omega (arith, frame-bytes letter, size)) frame
