@@ -1,17 +1,17 @@
 -- The text of frames: its length, its characters, and how it is cut and written. Assumes nothing.
-use mathlib.Core.Path.{_≡_, refl, sym, ap, subst, _∙_}
+use mathlib.Core.Path.{_≡_, refl, sym, ap, _∙_}
 use mathlib.Core.List.{List, [], _∷_, _++_, append-assoc, append-nil}
-use Prim.Native.Nat.{ℕ, _+_, _-_, _*_, _^_, _≤_, _<_}
+use Prim.Native.Nat.{ℕ, _+_, _*_, _≤_}
 use native.Mathlib.Omega.{arith}
 use lib.ListN.{length, take, drop, length-append, length-drop, take-append-drop}
 use Rattle.std.specs.shelf.Lists.{All}
 use Rattle.std.proofs.shelf.Elements.{all-append}
-use Rattle.std.proofs.shelf.Lists.{take-at, take-rest, nil-from-length}
+use Rattle.std.proofs.shelf.Lists.{take-at, nil-from-length}
 use Rattle.std.proofs.shelf.Ways.{tells}
 use Rattle.hex.specs.Hex.{Hex, digits}
 use Rattle.hex.proofs.Digits.{length-digits, digits-hex}
 use Rattle.letters.specs.Parts.{Part, byte, short, before, after, text, bytes, Fit, Took, Wrote}
-use Rattle.letters.specs.Layout.{code-of, parts-of, frame-of, line-of, size-at, Fits}
+use Rattle.letters.specs.Layout.{code-of, parts-of, frame-of, line-of, size-at}
 use Rattle.letters.specs.Reading.{Begins}
 use Rattle.letters.specs.declared.letter.Body.{Body}
 use Rattle.letters.specs.declared.letter.Body.the-variants.{Send, Ack, Done, SkipShare, Skip, ViewChange}

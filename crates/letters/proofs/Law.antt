@@ -3,7 +3,7 @@ use mathlib.Core.Path.{_≡_, refl, sym, ap, subst, _∙_}
 use mathlib.Core.Bool.{cond}
 use mathlib.Core.List.{List, [], _∷_, _++_, map}
 use mathlib.Core.Logic.{⊎-elim}
-use Prim.Native.Nat.{ℕ, _*_, _^_, _<_, _≤_}
+use Prim.Native.Nat.{ℕ, _*_, _^_, _<_}
 use native.Mathlib.Omega.{arith}
 use lib.Dec.{eqb}
 use lib.ListN.{length, getD}
@@ -13,10 +13,10 @@ use Rattle.std.proofs.shelf.Elements.{all-getD}
 use Rattle.std.proofs.shelf.Ways.{tells}
 use Rattle.hex.specs.Hex.{Hex, digits}
 use Rattle.hex.proofs.Digits.{digits-same, split-digits}
-use Rattle.lines.specs.Damage.{Applies, Sound}
+use Rattle.lines.specs.Damage.{Sound}
 use Rattle.letters.specs.Parts.{Part, text, Fit}
-use Rattle.letters.specs.Layout.{code-of, parts-of, frame-of, line-of, size-at, Fits}
-use Rattle.letters.specs.Reading.{Begins, Cut, OnlyLine, ReadsBack}
+use Rattle.letters.specs.Layout.{code-of, parts-of, line-of, size-at, Fits}
+use Rattle.letters.specs.Reading.{Cut, OnlyLine, ReadsBack}
 use Rattle.letters.specs.declared.letter.Body.{Body}
 use Rattle.letters.specs.declared.letter.Body.the-variants.{Send, Ack, Done, SkipShare, Skip, ViewChange}
 use Rattle.letters.specs.declared.letter.Letter.{Letter}

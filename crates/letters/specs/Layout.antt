@@ -7,7 +7,6 @@ use lib.Dec.{eqb}
 use Rattle.letters.specs.Parts.{Part, byte, short, long, text, Fit}
 use Rattle.letters.specs.declared.letter.Body.{Body}
 use Rattle.letters.specs.declared.letter.Body.the-variants.{Send, Ack, Done, SkipShare, Skip, ViewChange}
-use Rattle.letters.specs.declared.letter.Holding.{Holding}
 use Rattle.letters.specs.declared.letter.Letter.{Letter}
 
 -- hexadecimal 11 to 16

@@ -1,6 +1,6 @@
 // What the kinds of letter have in common: a code, a length, and fields in their order.
 ghost use mathlib.Core.Path.{_≡_};
-ghost use Prim.Native.Nat.{ℕ, _+_, _-_, _*_, _≤_, _<_};
+ghost use Prim.Native.Nat.{ℕ, _+_, _-_, _*_, _≤_};
 ghost use denote.Ref.{name};
 ghost use lib.ListN.{length};
 ghost use Rattle.letters.specs.Layout.{code-of, parts-of, size-at};

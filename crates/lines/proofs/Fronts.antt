@@ -5,7 +5,6 @@ use mathlib.Core.List.{List}
 use mathlib.Core.Logic.{_⊎_, inl, inr, ⊎-elim}
 use Prim.Native.Nat.{ℕ, _+_, _%_, _-_, min, _≤_, _<_}
 use native.Mathlib.Omega.{arith}
-use lib.Dec.{ltb}
 use lib.ListN.{length, getD, take, length-take}
 use Rattle.std.specs.Options.{Cases}
 use Rattle.std.specs.declared.option.Option.{Option}
@@ -15,7 +14,7 @@ use Rattle.std.proofs.shelf.Elements.{all-from-getD}
 use Rattle.std.proofs.shelf.Lists.{getD-take, take-all}
 use Rattle.std.proofs.shelf.Tests.{cases-lt, ltb-true, ltb-false, lt-ltb, le-ltb}
 use Rattle.hex.specs.Hex.{Hex}
-use Rattle.lines.specs.Damage.{Wrong, OddEnd, Overlong, Applies, DamagedAt, Sound, Fronts, FrontApplies, FrontDamagedAt}
+use Rattle.lines.specs.Damage.{Applies, DamagedAt, Sound, Fronts, FrontApplies, FrontDamagedAt}
 use Rattle.lines.specs.Judged.{IsNote}
 
 -- a front as the code cuts it

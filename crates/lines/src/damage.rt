@@ -1,5 +1,4 @@
 // Where a line is damaged. Layer 1 is its text, which is judged here; layer 2 is its frame.
-ghost use mathlib.Core.List.{List};
 ghost use mathlib.Core.Path.{_≡_};
 ghost use Prim.Native.Nat.{ℕ, _≤_};
 ghost use lib.ListN.{length};

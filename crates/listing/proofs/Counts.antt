@@ -2,9 +2,8 @@
 use mathlib.Core.Bool.{Bool, cond}
 use mathlib.Core.List.{List, [], _∷_, _++_}
 use mathlib.Core.Path.{_≡_}
-use Prim.Native.Nat.{ℕ, _+_}
+use Prim.Native.Nat.{_+_}
 use native.Mathlib.Omega.{arith}
-use lib.ListN.{length}
 use Rattle.std.proofs.shelf.Lists.{length-push}
 use Rattle.listing.specs.Tallies.{Adds, Tallies, how-many, in-frame, in-text, is-damaged, is-letter, is-note}
 use Rattle.listing.specs.declared.entry.Entry.{Entry}

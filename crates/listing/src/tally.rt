@@ -1,8 +1,8 @@
 // How many lines there were of each sort.
-ghost use mathlib.Core.Bool.{Bool, true, false};
+ghost use mathlib.Core.Bool.{true, false};
 ghost use mathlib.Core.List.{List, [], _∷_, _++_};
 ghost use mathlib.Core.Path.{_≡_};
-ghost use Prim.Native.Nat.{ℕ, _+_, _≤_, _<_};
+ghost use Prim.Native.Nat.{_+_, _≤_, _<_};
 ghost use Rattle.std.specs.Orderings.{When};
 ghost use Rattle.listing.specs.Tallies.{Adds, Tallies, letters-in, lines-in};
 ghost use Rattle.listing.specs.declared.entry.Entry.{Entry};

@@ -13,7 +13,7 @@ use Rattle.std.proofs.shelf.Lists.{length-push}
 use Rattle.std.proofs.shelf.Tests.{ne-eqb, cond-false, cases-lt, both-ways}
 use Rattle.lines.specs.Buffer.{Kept}
 use Rattle.reader.specs.Intake.{Stands, Last, CameAs, Did, number-then}
-use Rattle.lines.specs.Lines.{first-line, after-line, rest-after, line-after}
+use Rattle.lines.specs.Lines.{first-line, after-line, rest-after}
 use Rattle.reader.specs.declared.intake.Progress.{Progress}
 use Rattle.reader.specs.declared.intake.Progress.the-variants.{Inside, Ended, Past}
 use Rattle.lines.proofs.Ends.{runs}

@@ -1,7 +1,6 @@
 // The lines of an input that lies in memory, one after the other.
 ghost use mathlib.Core.Path.{_≡_};
-ghost use Prim.Native.Nat.{ℕ, _-_};
-ghost use lib.ListN.{length};
+ghost use Prim.Native.Nat.{_-_};
 ghost use Rattle.reader.specs.Next.{Next};
 ghost use Rattle.lines.specs.Lines.{rest-after};
 use lines::line::Line;

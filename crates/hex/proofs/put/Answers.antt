@@ -1,10 +1,10 @@
 use mathlib.Core.Path.{_≡_, subst, ap, _∙_}
 use mathlib.Core.List.{_++_, append-nil}
-use Prim.Native.Nat.{_-_, _<_, _/_, _%_, suc}
+use Prim.Native.Nat.{_-_, _/_, suc}
 use native.Mathlib.Omega.{arith}
 use lib.ListN.{length, drop, set}
 use Rattle.std.proofs.shelf.Lists.{drop-all}
-use Rattle.hex.specs.Hex.{digits, char-of}
+use Rattle.hex.specs.Hex.{digits}
 use Rattle.hex.proofs.Digits.{put-more}
 use Rattle.hex.proofs.put.Needs as need
 

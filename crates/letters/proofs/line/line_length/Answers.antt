@@ -1,4 +1,4 @@
-use mathlib.Core.Path.{_≡_, ap, _∙_}
+use mathlib.Core.Path.{ap, _∙_}
 use native.Mathlib.Omega.{arith}
 use Rattle.letters.specs.Layout.{code-of, size-at}
 use Rattle.letters.proofs.Frames.{line-long, size-small}

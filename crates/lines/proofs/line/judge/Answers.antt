@@ -1,5 +1,4 @@
 use mathlib.Core.Path.{refl}
-use native.Mathlib.Omega.{arith}
 use Rattle.std.proofs.shelf.Ways.{not-from-decides}
 use Rattle.lines.proofs.Fronts.{no-more, note-line, note-front, front-whole, damaged-whole, sound-whole, sound-short}
 use Rattle.lines.proofs.line.judge.Needs as need
