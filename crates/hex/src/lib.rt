@@ -1,18 +1,15 @@
 // Hexadecimal digits, and numbers in a fixed count of them.
-ghost use mathlib.Core.Logic.{_⊎_};
 ghost use mathlib.Core.Path.{_≡_};
-ghost use Prim.Native.Nat.{_%_, _^_, _<_};
+ghost use Prim.Native.Nat.{_%_, _<_};
 ghost use lib.ListN.{length};
-ghost use Rattle.std.specs.Options.{Cases as BySome};
-ghost use Rattle.std.specs.shelf.Lists.{All};
-ghost use Rattle.hex.specs.Hex.{Hex, char-of, digits};
+ghost use Rattle.hex.specs.Hex.{AsNumber, Worth, char-of, digits};
 
 // The most digits a 64-bit number has.
 const WIDEST: usize = 16;
 
 // The value of a hexadecimal digit: 0 to 9 and small a to f only.
 pub fn value(byte: u8) -> Option<u8>
-    ensures { λ r. ⌜ BySome r (Hex byte → ⊥) (λ d. Hex byte × (d < 16) × (byte ≡ char-of d)) ⌝ }
+    ensures { λ r. ⌜ Worth byte r ⌝ }
 {
     match char::from(byte) {
         '0'..='9' => Some(byte - b'0'),
@@ -41,7 +38,7 @@ fn last_digit(number: u64) -> u8
 
 // The number that a text of at most sixteen digits writes; none for any other text.
 pub fn number(text: &[u8]) -> Option<u64>
-    ensures { λ r. ⌜ BySome r ((16 < length (now (text .entry))) ⊎ (All Hex (now (text .entry)) → ⊥)) (λ n. (n < 16 ^ length (now (text .entry))) × (now (text .entry) ≡ digits (length (now (text .entry))) n)) ⌝ }
+    ensures { λ r. ⌜ AsNumber (now (text .entry)) r ⌝ }
 {
     if text.len() > WIDEST {
         return None;

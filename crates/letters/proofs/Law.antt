@@ -15,8 +15,8 @@ use Rattle.hex.specs.Hex.{Hex, digits}
 use Rattle.hex.proofs.Digits.{digits-same, split-digits}
 use Rattle.lines.specs.Damage.{Sound}
 use Rattle.letters.specs.Parts.{Part, text, Fit}
-use Rattle.letters.specs.Layout.{code-of, parts-of, line-of, size-at, Fits}
-use Rattle.letters.specs.Reading.{Cut, OnlyLine, ReadsBack}
+use Rattle.letters.specs.Layout.{ack-code, code-of, done-code, line-of, parts-of, send-code, size-at, skip-code, skip-share-code, Fits}
+use Rattle.letters.specs.Reading.{Cut, IsLine, OnlyLine, ReadsBack}
 use Rattle.letters.specs.declared.letter.Body.{Body}
 use Rattle.letters.specs.declared.letter.Body.the-variants.{Send, Ack, Done, SkipShare, Skip, ViewChange}
 use Rattle.letters.specs.declared.letter.Letter.{Letter}
@@ -51,20 +51,20 @@ values-same (p ∷ ps) (q ∷ qs) w f h e =
 -- the widths of a frame's fields after the code, by the code
 abbrev widths-at : ℕ → List ℕ
 widths-at c =
-    1 ∷ 2 ∷ cond (eqb c 17) (1 ∷ 8 ∷ 2 ∷ 8 ∷ [])
-    (cond (eqb c 18) (1 ∷ 1 ∷ 8 ∷ [])
-    (cond (eqb c 19) (8 ∷ 8 ∷ [])
-    (cond (eqb c 20) []
-    (cond (eqb c 21) (8 ∷ []) (8 ∷ 8 ∷ 8 ∷ 8 ∷ 8 ∷ 8 ∷ [])))))
+    1 ∷ 2 ∷ cond (eqb c send-code) (1 ∷ 8 ∷ 2 ∷ 8 ∷ [])
+    (cond (eqb c ack-code) (1 ∷ 1 ∷ 8 ∷ [])
+    (cond (eqb c done-code) (8 ∷ 8 ∷ [])
+    (cond (eqb c skip-share-code) []
+    (cond (eqb c skip-code) (8 ∷ []) (8 ∷ 8 ∷ 8 ∷ 8 ∷ 8 ∷ 8 ∷ [])))))
 
 -- the letter with this code and these numbers after it
 abbrev pub body-at : ℕ → List ℕ → Body
 body-at c vs =
-    cond (eqb c 17) (Send (record { step = getD vs 2 0; edition = getD vs 3 0; «key_view» = getD vs 4 0; mask = getD vs 5 0 }))
-    (cond (eqb c 18) (Ack (record { lead = getD vs 2 0; step = getD vs 3 0; edition = getD vs 4 0 }))
-    (cond (eqb c 19) (Done (record { edition = getD vs 2 0; mask = getD vs 3 0 }))
-    (cond (eqb c 20) (SkipShare (record {}))
-    (cond (eqb c 21) (Skip (record { mask = getD vs 2 0 }))
+    cond (eqb c send-code) (Send (record { step = getD vs 2 0; edition = getD vs 3 0; «key_view» = getD vs 4 0; mask = getD vs 5 0 }))
+    (cond (eqb c ack-code) (Ack (record { lead = getD vs 2 0; step = getD vs 3 0; edition = getD vs 4 0 }))
+    (cond (eqb c done-code) (Done (record { edition = getD vs 2 0; mask = getD vs 3 0 }))
+    (cond (eqb c skip-share-code) (SkipShare (record {}))
+    (cond (eqb c skip-code) (Skip (record { mask = getD vs 2 0 }))
     (ViewChange (record { key = record { edition = getD vs 2 0; mask = getD vs 3 0 }; lock = record { edition = getD vs 4 0; mask = getD vs 5 0 }; commit = record { edition = getD vs 6 0; mask = getD vs 7 0 } }))))))
 
 abbrev pub letter-at : ℕ → List ℕ → Letter
@@ -106,7 +106,7 @@ known-small : (c : ℕ) → 0 < size-at c → c < 256
 known-small c h = grind (arith, tells)
 
 -- a line read as a letter is read back, whatever the error's type
-pub ok-back : {E : Type 0} (line : List ℕ) (m : Letter) → (line ≡ line-of m) × Fits m → ReadsBack {E = E} line (Ok m)
+pub ok-back : {E : Type 0} (line : List ℕ) (m : Letter) → IsLine line m → ReadsBack {E = E} line (Ok m)
 ok-back line m h l f e = ap Ok (line-same m l (h .1) f (sym (h .0) ∙ e))
 
 -- the line of a letter cuts as that letter

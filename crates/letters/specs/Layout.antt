@@ -1,5 +1,5 @@
 -- The layout of a letter's line: the one place where codes, fields, their order and widths stand.
--- A reader must believe: `code-of` and `parts-of`. `size-at` only names the lengths that follow.
+-- A reader must believe: the codes and `parts-of`. `size-at` only names the lengths that follow.
 use mathlib.Core.Bool.{cond}
 use mathlib.Core.List.{List, [], _∷_}
 use Prim.Native.Nat.{ℕ}
@@ -9,14 +9,32 @@ use Rattle.letters.specs.declared.letter.Body.{Body}
 use Rattle.letters.specs.declared.letter.Body.the-variants.{Send, Ack, Done, SkipShare, Skip, ViewChange}
 use Rattle.letters.specs.declared.letter.Letter.{Letter}
 
--- hexadecimal 11 to 16
+-- the codes, hexadecimal 11 to 16
+abbrev pub send-code : ℕ
+send-code = 17
+
+abbrev pub ack-code : ℕ
+ack-code = 18
+
+abbrev pub done-code : ℕ
+done-code = 19
+
+abbrev pub skip-share-code : ℕ
+skip-share-code = 20
+
+abbrev pub skip-code : ℕ
+skip-code = 21
+
+abbrev pub view-change-code : ℕ
+view-change-code = 22
+
 abbrev pub code-of : Body → ℕ
-code-of (Send k) = 17
-code-of (Ack k) = 18
-code-of (Done k) = 19
-code-of (SkipShare k) = 20
-code-of (Skip k) = 21
-code-of (ViewChange k) = 22
+code-of (Send k) = send-code
+code-of (Ack k) = ack-code
+code-of (Done k) = done-code
+code-of (SkipShare k) = skip-share-code
+code-of (Skip k) = skip-code
+code-of (ViewChange k) = view-change-code
 
 -- the fields after the view
 abbrev pub parts-of : Body → List Part
@@ -41,4 +59,4 @@ Fits l = Fit (frame-of l)
 
 -- how many bytes a frame with this code has, and 0 where no letter has it
 abbrev pub size-at : ℕ → ℕ
-size-at c = cond (eqb c 17) 23 (cond (eqb c 18) 14 (cond (eqb c 19) 20 (cond (eqb c 20) 4 (cond (eqb c 21) 12 (cond (eqb c 22) 52 0)))))
+size-at c = cond (eqb c send-code) 23 (cond (eqb c ack-code) 14 (cond (eqb c done-code) 20 (cond (eqb c skip-share-code) 4 (cond (eqb c skip-code) 12 (cond (eqb c view-change-code) 52 0)))))

@@ -1,5 +1,6 @@
 -- A frame is a list of parts, each a number in a fixed count of bytes, the high byte first; its text
 -- has two hexadecimal digits to the byte.
+-- A reader must believe: `text` and `Fit`. The records say what a reader and a writer of parts do.
 use Prim.Native.Nat.{ℕ, _+_, _*_, _^_, _≤_, _<_}
 use mathlib.Core.List.{List, [], _∷_, _++_}
 use mathlib.Core.Path.{_≡_}

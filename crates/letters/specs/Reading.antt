@@ -46,14 +46,18 @@ abbrev pub DamagedIn : Layer → List ℕ → ℕ → Type 0
 DamagedIn Text line column = DamagedAt line column
 DamagedIn Frame line column = Sound line × ((fault : Fault) × Faulty line fault × (column ≡ column-of fault line))
 
+-- this is the line of this letter
+abbrev pub IsLine : List ℕ → Letter → Type 0
+IsLine line l = (line ≡ line-of l) × Fits l
+
 -- what cutting a sound line answers
 abbrev pub Cut : List ℕ → Result Letter Fault → Type 0
-Cut line (Ok l) = (line ≡ line-of l) × Fits l
+Cut line (Ok l) = IsLine line l
 Cut line (Err fault) = Faulty line fault
 
 -- what reading a line answers: the letter whose line it is, or where it is damaged
 abbrev pub Read : List ℕ → Result Letter Damage → Type 0
-Read line (Ok l) = (line ≡ line-of l) × Fits l
+Read line (Ok l) = IsLine line l
 Read line (Err d) = DamagedIn (d .layer) line (d .column)
 
 -- the rule leaves no choice: no other answer meets it

@@ -3,7 +3,7 @@ ghost use mathlib.Core.Path.{_≡_};
 ghost use Prim.Native.Nat.{ℕ, _+_, _-_, _*_, _≤_};
 ghost use denote.Ref.{name};
 ghost use lib.ListN.{length};
-ghost use Rattle.letters.specs.Layout.{code-of, parts-of, size-at};
+ghost use Rattle.letters.specs.Layout.{ack-code, code-of, done-code, parts-of, send-code, size-at, skip-code, skip-share-code, view-change-code};
 ghost use Rattle.letters.specs.Parts.{Has, Took, Wrote};
 ghost use Rattle.letters.specs.declared.letter.Body.{Body};
 use crate::fields::Fields;
@@ -53,7 +53,7 @@ pub(crate) impl LetterKind for Send as SendKind {
 
     const LENGTH: usize = 23;
 
-    ghost code = { 17 };
+    ghost code = { send-code };
 
     ghost means = { λ k. Body.Send k };
 
@@ -83,7 +83,7 @@ pub(crate) impl LetterKind for Ack as AckKind {
 
     const LENGTH: usize = 14;
 
-    ghost code = { 18 };
+    ghost code = { ack-code };
 
     ghost means = { λ k. Body.Ack k };
 
@@ -111,7 +111,7 @@ pub(crate) impl LetterKind for Done as DoneKind {
 
     const LENGTH: usize = 20;
 
-    ghost code = { 19 };
+    ghost code = { done-code };
 
     ghost means = { λ k. Body.Done k };
 
@@ -137,7 +137,7 @@ pub(crate) impl LetterKind for SkipShare as SkipShareKind {
 
     const LENGTH: usize = 4;
 
-    ghost code = { 20 };
+    ghost code = { skip-share-code };
 
     ghost means = { λ k. Body.SkipShare k };
 
@@ -157,7 +157,7 @@ pub(crate) impl LetterKind for Skip as SkipKind {
 
     const LENGTH: usize = 12;
 
-    ghost code = { 21 };
+    ghost code = { skip-code };
 
     ghost means = { λ k. Body.Skip k };
 
@@ -181,7 +181,7 @@ pub(crate) impl LetterKind for ViewChange as ViewChangeKind {
 
     const LENGTH: usize = 52;
 
-    ghost code = { 22 };
+    ghost code = { view-change-code };
 
     ghost means = { λ k. Body.ViewChange k };
 

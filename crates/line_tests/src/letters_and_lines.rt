@@ -86,6 +86,14 @@ fn six_kinds() -> Result<(), Fail> {
         },
         b"15ffffffffffffffffffffff",
     )?;
+    both_ways(
+        Letter {
+            sender: 1,
+            view: 1,
+            body: Body::Skip(Skip { mask: 7 }),
+        },
+        b"150100010000000000000007",
+    )?;
     let held = Holding {
         edition: 98,
         mask: 7,

@@ -101,9 +101,8 @@ fn long_lines() -> Result<(), Fail> {
 #[test]
 fn at_most_65535_lines(rt: LibcRuntime) -> Result<(), Fail> {
     let input = vec![in rt.alloc(); b'\n'; 65_537]?;
-    let mut reader = Reader::new(input.as_slice());
     let mut count = 0u32;
-    for line in reader {
+    for line in Reader::new(input.as_slice()) {
         count = count.saturating_add(1);
         check_eq(u32::from(line.number()), count)?;
     }

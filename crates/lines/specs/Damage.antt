@@ -32,9 +32,13 @@ Overlong line column = (512 < length line) × (column ≡ 513)
 abbrev pub Applies : List ℕ → ℕ → Type 0
 Applies line column = Wrong line column ⊎ (OddEnd line column ⊎ Overlong line column)
 
+-- the least number of which something holds
+abbrev pub Least : (ℕ → Type 0) → ℕ → Type 0
+Least P n = P n × ((other : ℕ) → P other → n ≤ other)
+
 -- the least column that applies
 abbrev pub DamagedAt : List ℕ → ℕ → Type 0
-DamagedAt line column = Applies line column × ((other : ℕ) → Applies line other → column ≤ other)
+DamagedAt line column = Least (Applies line) column
 
 -- no column applies
 abbrev pub Sound : List ℕ → Type 0
@@ -50,4 +54,4 @@ FrontApplies front longer column = Wrong front column ⊎ (((longer ≡ false) �
 
 -- `DamagedAt`, said of what is seen
 abbrev pub FrontDamagedAt : List ℕ → Bool → ℕ → Type 0
-FrontDamagedAt front longer column = FrontApplies front longer column × ((other : ℕ) → FrontApplies front longer other → column ≤ other)
+FrontDamagedAt front longer column = Least (FrontApplies front longer) column

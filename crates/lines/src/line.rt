@@ -104,6 +104,7 @@ impl<'a> Line<'a> {
         let (front, longer) = front(text);
         judge(number, front, longer)
     }
+
     // The number of the line.
     pub fn number(&self) -> u16
         ensures { λ r. ⌜ r ≡ number-of (now (self .entry)) ⌝ }

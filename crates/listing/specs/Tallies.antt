@@ -1,13 +1,14 @@
 -- What a tally counts: of each sort, how many entries there were.
+-- A reader must believe: `Tallies`, each count beside the test for its sort.
 use mathlib.Core.Bool.{Bool, true, false, cond}
-use mathlib.Core.List.{List, [], _∷_}
+use mathlib.Core.List.{List, [], _∷_, _++_}
 use mathlib.Core.Path.{_≡_}
-use Prim.Native.Nat.{ℕ, _+_}
+use Prim.Native.Nat.{ℕ, _+_, _≤_, _<_}
 use lib.Dec.{eqb}
 use lib.ListN.{length}
 use Rattle.lines.specs.declared.damage.Layer.{Layer}
 use Rattle.lines.specs.declared.damage.Layer.the-variants.{Text, Frame}
-use Rattle.letters.specs.Layout.{code-of}
+use Rattle.letters.specs.Layout.{ack-code, code-of, done-code, send-code, skip-code, skip-share-code, view-change-code}
 use Rattle.listing.specs.declared.entry.Entry.{Entry}
 use Rattle.listing.specs.declared.entry.Entry.the-variants.{Note, Letter, Damaged}
 use Rattle.listing.specs.declared.tally.Tally.{Tally}
@@ -52,12 +53,12 @@ lines-in t = letters-in t + t .notes + t .text + t .frame
 
 -- one entry more: its sort's count is one higher, every other stays
 pub record Adds (e : Entry) (t t′ : Tally) : Type 0 where
-  pub send : t′ .send ≡ t .send + cond (is-letter 17 e) 1 0
-  pub ack : t′ .ack ≡ t .ack + cond (is-letter 18 e) 1 0
-  pub done : t′ .done ≡ t .done + cond (is-letter 19 e) 1 0
-  pub skip-share : t′ .«skip_share» ≡ t .«skip_share» + cond (is-letter 20 e) 1 0
-  pub skip : t′ .skip ≡ t .skip + cond (is-letter 21 e) 1 0
-  pub view-change : t′ .«view_change» ≡ t .«view_change» + cond (is-letter 22 e) 1 0
+  pub send : t′ .send ≡ t .send + cond (is-letter send-code e) 1 0
+  pub ack : t′ .ack ≡ t .ack + cond (is-letter ack-code e) 1 0
+  pub done : t′ .done ≡ t .done + cond (is-letter done-code e) 1 0
+  pub skip-share : t′ .«skip_share» ≡ t .«skip_share» + cond (is-letter skip-share-code e) 1 0
+  pub skip : t′ .skip ≡ t .skip + cond (is-letter skip-code e) 1 0
+  pub view-change : t′ .«view_change» ≡ t .«view_change» + cond (is-letter view-change-code e) 1 0
   pub notes : t′ .notes ≡ t .notes + cond (is-note e) 1 0
   pub text : t′ .text ≡ t .text + cond (is-damaged in-text e) 1 0
   pub frame : t′ .frame ≡ t .frame + cond (is-damaged in-frame e) 1 0
@@ -65,13 +66,18 @@ pub record Adds (e : Entry) (t t′ : Tally) : Type 0 where
 
 -- each count is that of its sort, and every entry is counted once
 pub record Tallies (es : List Entry) (t : Tally) : Type 0 where
-  pub send : t .send ≡ how-many (is-letter 17) es
-  pub ack : t .ack ≡ how-many (is-letter 18) es
-  pub done : t .done ≡ how-many (is-letter 19) es
-  pub skip-share : t .«skip_share» ≡ how-many (is-letter 20) es
-  pub skip : t .skip ≡ how-many (is-letter 21) es
-  pub view-change : t .«view_change» ≡ how-many (is-letter 22) es
+  pub send : t .send ≡ how-many (is-letter send-code) es
+  pub ack : t .ack ≡ how-many (is-letter ack-code) es
+  pub done : t .done ≡ how-many (is-letter done-code) es
+  pub skip-share : t .«skip_share» ≡ how-many (is-letter skip-share-code) es
+  pub skip : t .skip ≡ how-many (is-letter skip-code) es
+  pub view-change : t .«view_change» ≡ how-many (is-letter view-change-code) es
   pub notes : t .notes ≡ how-many is-note es
   pub text : t .text ≡ how-many (is-damaged in-text) es
   pub frame : t .frame ≡ how-many (is-damaged in-frame) es
   pub all : lines-in t ≡ length es
+
+-- counting an entry, and whether it was counted: a tally of 65,535 lines takes no more and stays as it is
+abbrev pub Counted : Tally → Entry → Tally → Bool → Type 0
+Counted t e t′ true = (lines-in t < 65535) × Adds e t t′ × ((es : List Entry) → Tallies es t → Tallies (es ++ e ∷ []) t′)
+Counted t e t′ false = (65535 ≤ lines-in t) × (t′ ≡ t)

@@ -2,7 +2,7 @@
 ghost use mathlib.Core.List.{List};
 ghost use Prim.Native.Nat.{ℕ};
 ghost use Rattle.lines.specs.Judged.{Judged};
-ghost use Rattle.listing.specs.Entries.{Entered};
+ghost use Rattle.listing.specs.Entries.{Comes, Entered};
 use letters::letter::Letter;
 use lines::damage::Damage;
 use lines::damage::Layer;
@@ -19,7 +19,8 @@ pub enum Entry {
 impl Entry {
     // The entry of a line, read through both layers.
     pub fn of(line: Line) -> Entry
-        ensures { λ r. ⌜ ((text : List ℕ) (n : ℕ) → Judged text n (line .entry) → Entered text r) ⌝ }
+        ensures line { λ r. ⌜ Comes (line .entry) r ⌝ }
+        ensures text { λ r. ⌜ ((text : List ℕ) (n : ℕ) → Judged text n (line .entry) → Entered text r) ⌝ }
     {
         match line {
             Line::Note { .. } => Entry::Note,

@@ -1,11 +1,8 @@
 // How many lines there were of each sort.
-ghost use mathlib.Core.Bool.{true, false};
-ghost use mathlib.Core.List.{List, [], _∷_, _++_};
+ghost use mathlib.Core.List.{[]};
 ghost use mathlib.Core.Path.{_≡_};
-ghost use Prim.Native.Nat.{_+_, _≤_, _<_};
-ghost use Rattle.std.specs.Orderings.{When};
-ghost use Rattle.listing.specs.Tallies.{Adds, Tallies, letters-in, lines-in};
-ghost use Rattle.listing.specs.declared.entry.Entry.{Entry};
+ghost use Prim.Native.Nat.{_+_, _<_};
+ghost use Rattle.listing.specs.Tallies.{Adds, Counted, Tallies, letters-in, lines-in};
 use crate::entry::Entry;
 use letters::letter::Body;
 use lines::damage::Layer;
@@ -120,7 +117,7 @@ impl Tally {
 
     // Counts an entry, and says whether it did: no more than 65,535 are counted.
     pub fn count(&mut self, entry: Entry) -> bool
-        ensures { λ r. ⌜ When r ((lines-in (now (self .entry)) < 65535) × ((es : List Entry) → Tallies es (now (self .entry)) → Tallies (es ++ entry ∷ []) (now (self .exit)))) ((65535 ≤ lines-in (now (self .entry))) × (now (self .exit) ≡ now (self .entry))) ⌝ }
+        ensures { λ r. ⌜ Counted (now (self .entry)) entry (now (self .exit)) r ⌝ }
     {
         if self.lines() >= u32::from(LAST) {
             return false;

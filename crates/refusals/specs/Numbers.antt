@@ -1,4 +1,5 @@
--- The number of each refusal: the one place where the numbers stand.
+-- The number of each refusal: the one place of the specifications where the numbers stand.
+-- A reader must believe: the table, beside docs/REFUSALS.md.
 use Prim.Native.Nat.{ℕ}
 use Rattle.refusals.specs.declared.Refusal.{Refusal}
 use Rattle.refusals.specs.declared.Refusal.the-variants.{BadOpening, RecordNotEmpty, NoSuchPost, NoSuchLetter, PostCorrupted, PostNotCorrupted, TooManyCorrupted, PostNotReady, Malformed, OtherView, KindNotTaken, NotOwnBroadcast, Repeated, EditionNotAdmitted, KeyViewOutOfRange, NotCertified, RollFull, RecordFull, BufferTooShort}
