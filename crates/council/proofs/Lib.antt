@@ -1,0 +1,4 @@
+pub mod Quorums
+pub mod Same
+pub mod Empty
+pub mod Certified

@@ -1,0 +1,6 @@
+use borrow.Author.Needs.{needs}
+use Rattle.council.proofs.Quorums.{council-meets}
+use Rattle.council.proofs.council.Council.quorum.Needs as need
+
+pub returns : need.returns
+returns c = record { value = search needs; reached = search needs; meet = council-meets (c .args .self .now) }

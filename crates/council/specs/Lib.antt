@@ -1,0 +1,5 @@
+pub mod Councils
+pub mod Statements
+pub mod Signatures
+pub mod Signing
+pub mod Certificates
