@@ -3,6 +3,7 @@ ghost use mathlib.Core.Path.{_≡_};
 ghost use Rattle.std.specs.Orderings.{Decides};
 ghost use Rattle.council.specs.Statements.{Shape, of-broadcast, shaped, skipping};
 use crate::council::Council;
+use masks::senders::Entry;
 
 // The last view. Views are numbered from 1.
 pub const LAST_VIEW: u16 = 1_000;
@@ -44,6 +45,23 @@ pub impl PartialEq<Signature> for Signature as SignaturePartialEq {
 
     fn eq(&self, other: &Signature) -> bool {
         self.signer == other.signer && self.statement == other.statement
+    }
+}
+
+// A signature comes from its signer, and is on its statement.
+pub impl Entry for Signature as SignatureEntry {
+    type Matter = Statement;
+
+    ghost from = { λ s. s .signer };
+
+    ghost about = { λ s. s .statement };
+
+    fn sender(&self) -> u8 {
+        self.signer
+    }
+
+    fn matter(&self) -> Statement {
+        self.statement
     }
 }
 
