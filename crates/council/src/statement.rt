@@ -44,7 +44,7 @@ pub impl PartialEq<Signature> for Signature as SignaturePartialEq {
     ghost equals = { λ x y r. Decides r (x ≡ y) };
 
     fn eq(&self, other: &Signature) -> bool {
-        self.signer == other.signer && self.statement == other.statement
+        self.statement == other.statement && self.signer == other.signer
     }
 }
 

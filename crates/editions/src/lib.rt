@@ -1,0 +1,3 @@
+// The two checks: by a list of editions, and by a remainder.
+pub mod list;
+pub mod remainder;
