@@ -1,8 +1,8 @@
 -- The test of certificates decides the rule, and the laws of certificates. Assumes nothing.
-use mathlib.Core.Path.{_≡_, refl, sym, ap, _∙_}
-use mathlib.Core.Logic.{_⊎_, inl, inr}
-use mathlib.Core.Bool.{Bool, true, false, not, _&&_, _||_}
-use Prim.Native.Nat.{ℕ, zero, suc, _+_, _^_, _≤_, _<_}
+use mathlib.Core.Path.{_≡_, refl, ap}
+use mathlib.Core.Logic.{inl, inr}
+use mathlib.Core.Bool.{Bool, true, not, _&&_}
+use Prim.Native.Nat.{ℕ, _^_, _≤_, _<_}
 use native.Mathlib.Omega.{arith}
 use lib.Dec.{ltb, leb}
 use lib.Pow.{pow-mono}
@@ -10,12 +10,13 @@ use Rattle.std.specs.Orderings.{Decides}
 use Rattle.std.proofs.shelf.Tests.{and-parts, and-from, or-cases, or-left, or-right, not-true, leb-true, le-leb, ltb-true, lt-ltb, both-ways, cases-bool}
 use Rattle.std.proofs.shelf.Ways.{decides-below-and}
 use Rattle.masks.specs.Masks.{Inside, count, named, tally}
+use Rattle.masks.proofs.Counting.{count-grows}
 use Rattle.masks.proofs.Naming.{below-inside, inside-below}
 use Rattle.masks.proofs.Tallies.{tally-inside}
 use Rattle.council.specs.declared.council.Council.{Council}
 use Rattle.council.specs.declared.statement.Statement.{Statement}
 use Rattle.council.specs.declared.statement.Signature.{Signature}
-use Rattle.council.specs.Signatures.{Grows, by, signers}
+use Rattle.council.specs.Signatures.{Grows, Quorum, by, signers}
 use Rattle.council.specs.Certificates.{AllSigned, Certifies, CertificateLaws, covers, every, good}
 use Rattle.council.proofs.Quorums.{masked}
 
@@ -68,6 +69,11 @@ module _ (c : Council) (held : Signature → Bool) (mask : ℕ) (s : Statement) 
       let r = good-certifies h in
       omega (arith, r .enough, tally-inside (c .n) mask (masked c) (r .inside))
 
+  pub good-quorum : good c held mask s ≡ true → Quorum c held s
+  good-quorum h =
+      let signed = good-certifies h .signed in
+      omega (arith, good-enough h, count-grows (c .n) (named mask) (signers held s) (λ p _ t. signed p t))
+
   pub good-fits : good c held mask s ≡ true → mask < 2 ^ 64
   unfolding good
   good-fits h =
@@ -88,6 +94,7 @@ certificate-laws = record {
   inside = λ c held mask s h. good-certifies c held mask s h .inside;
   enough = good-enough;
   signed = λ c held mask s h. good-certifies c held mask s h .signed;
+  quorum = good-quorum;
   grows = good-grows;
   exact = good-exact;
 }

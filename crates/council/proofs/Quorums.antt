@@ -1,12 +1,9 @@
 -- Two quorums share a post that is not bad, wherever twice the quorum exceeds n + f. Assumes nothing.
-use mathlib.Core.Path.{_≡_}
-use mathlib.Core.Bool.{Bool, true, false}
 use Prim.Native.Nat.{ℕ, _+_, _*_, _≤_, _<_}
 use native.Mathlib.Omega.{arith}
-use Rattle.masks.specs.Masks.{count}
 use Rattle.masks.proofs.Counting.{count-share}
 use Rattle.council.specs.declared.council.Council.{Council}
-use Rattle.council.specs.Councils.{Shared, QuorumsMeet}
+use Rattle.council.specs.Councils.{QuorumsMeet}
 
 pub quorums-meet : (n f q : ℕ) → n + f < 2 * q → QuorumsMeet n f q
 quorums-meet n f q over A B bad a b few =

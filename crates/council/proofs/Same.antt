@@ -1,6 +1,6 @@
 -- The tests of equality decide equality. Assumes nothing.
 use mathlib.Core.Path.{_≡_, refl, sym, ap, fun-ext, _∙_}
-use mathlib.Core.Bool.{Bool, true, false, _&&_, _||_}
+use mathlib.Core.Bool.{Bool, true, false, _||_}
 use mathlib.Core.Logic.{inl, inr}
 use lib.Dec.{eqb}
 use Rattle.std.specs.Orderings.{Decides}

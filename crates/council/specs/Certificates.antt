@@ -9,7 +9,7 @@ use Rattle.masks.specs.Masks.{Inside, count, named, tally}
 use Rattle.council.specs.declared.council.Council.{Council}
 use Rattle.council.specs.declared.statement.Statement.{Statement}
 use Rattle.council.specs.declared.statement.Signature.{Signature}
-use Rattle.council.specs.Signatures.{Grows, by, signers}
+use Rattle.council.specs.Signatures.{Grows, Quorum, by, signers}
 
 -- each post that the mask names signed the statement
 abbrev pub AllSigned : (Signature → Bool) → ℕ → Statement → Type 0
@@ -47,6 +47,8 @@ pub record CertificateLaws : Type 0 where
   pub enough : (c : Council) (held : Signature → Bool) (mask : ℕ) (s : Statement) → good c held mask s ≡ true → c .quorum ≤ count (c .n) (named mask)
   -- each post that it names signed
   pub signed : (c : Council) (held : Signature → Bool) (mask : ℕ) (s : Statement) → good c held mask s ≡ true → AllSigned held mask s
+  -- so a quorum of the council's posts signed
+  pub quorum : (c : Council) (held : Signature → Bool) (mask : ℕ) (s : Statement) → good c held mask s ≡ true → Quorum c held s
   -- it stays good as the record grows
   pub grows : (c : Council) (held more : Signature → Bool) (mask : ℕ) (s : Statement) → Grows held more → good c held mask s ≡ true → good c more mask s ≡ true
   -- a mask of 64 bits that names exactly a quorum of the council's posts, all of whom signed, is good

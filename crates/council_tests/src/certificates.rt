@@ -5,8 +5,6 @@ use council::signing::Record;
 use council::signing::is_empty;
 use council::statement::Signature;
 use council::statement::Statement;
-use council::statement::StatementDebug;
-use council::statement::StatementPartialEq;
 use records::list::ListRecord;
 use records::list::ListRecordRecord;
 use records::sheet::SheetRecord;

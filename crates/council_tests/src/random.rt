@@ -3,18 +3,18 @@ ghost use Prim.Native.Nat.{_<_};
 
 // A generator by its state.
 #[derive(Drop)]
-pub struct Random {
+pub(crate) struct Random {
     state: u32,
 }
 
 impl Random {
     // A generator that starts from the seed.
-    pub fn new(seed: u32) -> Random {
+    pub(crate) fn new(seed: u32) -> Random {
         Random { state: seed }
     }
 
     // The next number below `bound`; 0 where the bound is 0.
-    pub fn below(&mut self, bound: u32) -> u32
+    pub(crate) fn below(&mut self, bound: u32) -> u32
         ensures { λ r. ⌜ (0 < bound → r < bound) ⌝ }
     {
         self.state ^= self.state << 13;

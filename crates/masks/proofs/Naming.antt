@@ -1,16 +1,15 @@
 -- What a mask names: after a post is added, past its width, and below a bound. Assumes nothing.
 use mathlib.Core.Path.{_≡_, refl, sym, ap, subst, _∙_}
-use mathlib.Core.Logic.{_⊎_, inl, inr}
-use mathlib.Core.Bool.{Bool, true, false, cond, _||_}
+use mathlib.Core.Logic.{inl, inr}
+use mathlib.Core.Bool.{false, cond, _||_}
 use Prim.Native.Nat.{ℕ, zero, suc, _+_, _-_, _*_, _/_, _%_, _^_, _≤_, _<_}
 use native.Mathlib.Omega.{arith}
 use native.Mathlib.Nat.{div-self, div-eq-of-lt, zero-div, mul-mod-left, pow-suc, mod-lt}
 use lib.Bits.{bitOr, or-shr, or-mod, or-zero-r}
-use lib.Dec.{eqb, ltb}
+use lib.Dec.{eqb}
 use lib.Pow.{pow-pos, pow-mono}
-use Rattle.std.specs.Orderings.{Decides}
 use Rattle.std.proofs.shelf.Bits.{pow-add, shl-shr, pow-below, shr-below, shr-split}
-use Rattle.std.proofs.shelf.Tests.{or-left, or-right, eqb-true, eqb-false, eq-eqb, ne-eqb, lt-ltb, le-ltb, cases-order, cases-lt, cases-bool, both-ways}
+use Rattle.std.proofs.shelf.Tests.{or-left, eqb-true, eqb-false, eq-eqb, ne-eqb, lt-ltb, le-ltb, cases-order, cases-lt, cases-bool}
 use Rattle.masks.specs.Masks.{named, naming, Inside}
 
 -- the digit of 2 ^ p at x

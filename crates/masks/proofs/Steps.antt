@@ -1,13 +1,11 @@
 -- The mask of the senders, as one entry more is looked at. Assumes nothing.
 use mathlib.Core.Path.{_≡_, sym, ap, subst, _∙_}
-use mathlib.Core.Bool.{true, false, _||_}
 use mathlib.Core.List.{List}
 use mathlib.Core.Logic.{_⊎_, inl, inr, ⊎-elim}
 use Prim.Native.Nat.{ℕ, _+_, _≤_, _<_}
 use native.Mathlib.Omega.{arith}
 use lib.Dec.{eqb}
 use lib.ListN.{length, getD}
-use Rattle.std.specs.Places.{At}
 use Rattle.std.proofs.shelf.Elements.{at-read}
 use Rattle.std.proofs.shelf.Tests.{cases-lt, eqb-true, eq-eqb, or-cases, or-left, or-right, both-ways}
 use Rattle.masks.specs.Masks.{named, naming}

@@ -1,7 +1,7 @@
 -- Lists of signatures: what they have, one more at the end, and who is behind a statement. Assumes
 -- nothing.
 use mathlib.Core.Path.{_≡_, refl, sym, ap, fun-ext, _∙_}
-use mathlib.Core.Bool.{Bool, true, false, not, _&&_, _||_}
+use mathlib.Core.Bool.{Bool, true, false, not, _||_}
 use mathlib.Core.List.{List, [], _∷_, _++_}
 use mathlib.Core.Logic.{_⊎_, inl, inr, ⊎-elim}
 use Prim.Native.Nat.{ℕ, _<_}
@@ -34,7 +34,8 @@ contains-listed l x false h = elim (cases-bool (listed l x)) [
   | inr e ↦ sym e
 ]
 
-turn : (a b d : Bool) → (a || (b || d)) ≡ (b || (a || d))
+-- the second comes to the front
+pub turn : (a b d : Bool) → (a || (b || d)) ≡ (b || (a || d))
 turn true true d = refl
 turn true false d = refl
 turn false true d = refl

@@ -2,15 +2,15 @@
 use mathlib.Core.Path.{_≡_, refl, sym, ap, ap₂, fun-ext, _∙_}
 use mathlib.Core.Bool.{Bool, true, false, not, _&&_, _||_}
 use mathlib.Core.List.{List, [], _∷_, _++_}
-use mathlib.Core.Logic.{_⊎_, inl, inr}
-use Prim.Native.Nat.{ℕ, zero, suc, _+_, _≤_, _<_}
+use mathlib.Core.Logic.{inl, inr}
+use Prim.Native.Nat.{ℕ, zero, suc, _+_, _<_}
 use native.Mathlib.Omega.{arith}
 use lib.Dec.{eqb, ltb}
 use lib.ListN.{length, getD, set}
 use Rattle.std.specs.Orderings.{Decides}
 use Rattle.std.specs.Places.{At, Every}
 use Rattle.std.proofs.shelf.Lists.{getD-default}
-use Rattle.std.proofs.shelf.Tests.{eqb-true, eq-eqb, ne-eqb, lt-ltb, le-ltb, and-parts, and-from, and-right, or-parts, or-from, not-true, not-from-false, cases-bool, both-ways}
+use Rattle.std.proofs.shelf.Tests.{eqb-true, eq-eqb, ne-eqb, lt-ltb, and-parts, and-from, and-right, or-parts, or-from, not-true, not-from-false, cases-bool, both-ways}
 use Rattle.std.proofs.shelf.Ways.{decides-by-or}
 use Rattle.masks.specs.Masks.{named, naming, tally}
 use Rattle.masks.proofs.Naming.{named-zero, named-naming}
@@ -21,6 +21,7 @@ use Rattle.council.specs.Statements.{same-statement}
 use Rattle.council.specs.Signatures.{adding, by, same}
 use Rattle.council.proofs.Same.{decides-same, decides-same-statement}
 use Rattle.records.specs.declared.row.Row.{Row}
+use Rattle.records.proofs.Listed.{turn}
 use Rattle.records.specs.Rows.{MarkedToo, apart, marked, marks, on-sheet, stated, total}
 
 -- ---- which statements have a row
@@ -73,12 +74,6 @@ marked-at (r ∷ rs) (suc i) d x a l h =
       | inr e ↦ e
     ] in
     ap (λ b. (b && named (r .signers) (x .signer)) || marked rs x) other ∙ marked-at rs i d x (p .1) (omega arith) h
-
-turn : (a b c : Bool) → (a || (b || c)) ≡ (b || (a || c))
-turn true true c = refl
-turn true false c = refl
-turn false true c = refl
-turn false false c = refl
 
 mix : (s e n m : Bool) → ((s && (e || n)) || m) ≡ ((e && s) || ((s && n) || m))
 mix true true n m = refl

@@ -1,6 +1,6 @@
 // Forming a council, and its numbers.
 ghost use mathlib.Core.Path.{_≡_};
-ghost use Prim.Native.Nat.{_+_, _≤_};
+ghost use Prim.Native.Nat.{_+_, _*_, _<_, _≤_};
 ghost use Rattle.council.specs.Councils.{Formed, QuorumsMeet};
 use crate::council::Council;
 use refusals::Refusal;
@@ -40,6 +40,7 @@ impl Council {
     pub fn quorum(&self) -> u8
         ensures value { λ r. ⌜ r ≡ now (self .entry) .quorum ⌝ }
         ensures reached { λ r. ⌜ r + now (self .entry) .f ≤ now (self .entry) .n ⌝ }
+        ensures overlap { λ r. ⌜ now (self .entry) .n + now (self .entry) .f < 2 * r ⌝ }
         ensures meet { λ r. ⌜ QuorumsMeet (now (self .entry) .n) (now (self .entry) .f) r ⌝ }
     {
         self.quorum

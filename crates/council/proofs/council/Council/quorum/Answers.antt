@@ -3,4 +3,4 @@ use Rattle.council.proofs.Quorums.{council-meets}
 use Rattle.council.proofs.council.Council.quorum.Needs as need
 
 pub returns : need.returns
-returns c = record { value = search needs; reached = search needs; meet = council-meets (c .args .self .now) }
+returns c = record { value = search needs; reached = search needs; overlap = search needs; meet = council-meets (c .args .self .now) }

@@ -1,8 +1,6 @@
 use mathlib.Core.Path.{_≡_, sym, subst}
 use mathlib.Core.Bool.{true}
 use mathlib.Core.List.{List}
-use Prim.Native.Nat.{ℕ}
-use Rattle.std.specs.Of.Vec.{vec-items}
 use Rattle.council.specs.declared.statement.Signature.{Signature}
 use Rattle.council.specs.Signatures.{by, listed}
 use Rattle.masks.specs.Masks.{named}

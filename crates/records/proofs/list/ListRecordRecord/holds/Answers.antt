@@ -1,5 +1,4 @@
-use mathlib.Core.Path.{_≡_, ap, _∙_}
-use Rattle.std.proofs.shelf.Ways.{same-from-decides}
+use mathlib.Core.Path.{ap, _∙_}
 use Rattle.council.specs.Signatures.{listed}
 use Rattle.records.proofs.Listed.{contains-listed}
 use Rattle.records.proofs.list.ListRecordRecord.holds.Needs as need

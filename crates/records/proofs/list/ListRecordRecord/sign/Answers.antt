@@ -1,5 +1,4 @@
-use mathlib.Core.Path.{_≡_, refl, sym}
-use mathlib.Core.Bool.{true}
+use mathlib.Core.Path.{refl, sym}
 use borrow.Author.Needs.{needs}
 use Rattle.std.specs.Of.Vec.{vec-items}
 use Rattle.council.specs.Signatures.{listed}
