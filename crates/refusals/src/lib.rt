@@ -9,11 +9,12 @@ ghost use Rattle.refusals.specs.Numbers.{number-of};
 // nothing (the field's word: error code). docs/REFUSALS.md says when each comes.
 #[derive(Clone, Copy, Debug, Eq)]
 pub enum Refusal {
-    // Opening: f is not 1 to 21, too few posts are handed in, or the draw is for another n.
+    // Opening: f is not 1 to 21, too few posts are handed in, or the draw is for another n. Setting a
+    // draw: it makes none.
     BadOpening,
     // Opening: the record holds a signature.
     RecordNotEmpty,
-    // The post or sender is not below n.
+    // The post or sender is not below n. Signing: the signer is above 63.
     NoSuchPost,
     // The letter number is not on the roll.
     NoSuchLetter,
