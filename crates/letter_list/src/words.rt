@@ -5,6 +5,7 @@ use letters::letter::Letter;
 use lines::damage::Damage;
 use lines::damage::Layer;
 use listing::tally::Tally;
+use masks::mask::names_post;
 use std::fmt;
 
 // What stands above the rows.
@@ -145,9 +146,9 @@ impl fmt::Display for Posts as PostsDisplay {
         }
         let mut open = false;
         let mut first = true;
-        for post in 0..64u32 {
-            let named = (self.0 >> post) & 1 == 1;
-            let next = post < 63 && (self.0 >> (post + 1)) & 1 == 1;
+        for post in 0..64u8 {
+            let named = names_post(self.0, post);
+            let next = names_post(self.0, post + 1);
             if named && !open {
                 if !first {
                     write!(f, " ")?;
