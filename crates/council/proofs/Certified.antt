@@ -89,12 +89,12 @@ good-grows c held more mask s g h =
 pub good-exact : (c : Council) (held : Signature → Bool) (mask : ℕ) (s : Statement) → mask < 2 ^ 64 → Inside mask (c .n) → tally mask ≡ c .quorum → AllSigned held mask s → good c held mask s ≡ true
 good-exact c held mask s fits inside exact signed = certifies-good c held mask s fits (record { inside = inside; enough = omega arith; signed = signed })
 
-pub certificate-laws : CertificateLaws
-certificate-laws = record {
-  inside = λ c held mask s h. good-certifies c held mask s h .inside;
-  enough = good-enough;
-  signed = λ c held mask s h. good-certifies c held mask s h .signed;
-  quorum = good-quorum;
-  grows = good-grows;
-  exact = good-exact;
+pub certificate-laws : (c : Council) (held : Signature → Bool) (mask : ℕ) (s : Statement) → CertificateLaws c held mask s
+certificate-laws c held mask s = record {
+  inside = λ h. good-certifies c held mask s h .inside;
+  enough = good-enough c held mask s;
+  signed = λ h. good-certifies c held mask s h .signed;
+  quorum = good-quorum c held mask s;
+  grows = λ more. good-grows c held more mask s;
+  exact = good-exact c held mask s;
 }

@@ -25,7 +25,7 @@ pub record Certifies (c : Council) (held : Signature → Bool) (mask : ℕ) (s :
   pub enough : c .quorum ≤ tally mask
   pub signed : AllSigned held mask s
 
--- the same, as a test
+-- ---- the same, as a test
 
 -- the test holds of each number below n
 unfoldable pub every : ℕ → (ℕ → Bool) → Bool
@@ -36,20 +36,21 @@ every (suc n) A = A n && every n A
 abbrev pub covers : (Signature → Bool) → ℕ → Statement → ℕ → Bool
 covers held mask s p = not (named mask p) || signers held s p
 
+-- the mask is good for the statement
 unfoldable pub good : Council → (Signature → Bool) → ℕ → Statement → Bool
 good c held mask s = ltb mask (2 ^ c .n) && (leb (c .quorum) (tally mask) && every (c .n) (covers held mask s))
 
--- what may be relied on of a good certificate, for every council, set of signatures, mask and statement
-pub record CertificateLaws : Type 0 where
+-- what may be relied on of a good certificate
+pub record CertificateLaws (c : Council) (held : Signature → Bool) (mask : ℕ) (s : Statement) : Type 0 where
   -- it names posts below n
-  pub inside : (c : Council) (held : Signature → Bool) (mask : ℕ) (s : Statement) → good c held mask s ≡ true → Inside mask (c .n)
+  pub inside : good c held mask s ≡ true → Inside mask (c .n)
   -- it names at least a quorum
-  pub enough : (c : Council) (held : Signature → Bool) (mask : ℕ) (s : Statement) → good c held mask s ≡ true → c .quorum ≤ count (c .n) (named mask)
+  pub enough : good c held mask s ≡ true → c .quorum ≤ count (c .n) (named mask)
   -- each post that it names signed
-  pub signed : (c : Council) (held : Signature → Bool) (mask : ℕ) (s : Statement) → good c held mask s ≡ true → AllSigned held mask s
+  pub signed : good c held mask s ≡ true → AllSigned held mask s
   -- so a quorum of the council's posts signed
-  pub quorum : (c : Council) (held : Signature → Bool) (mask : ℕ) (s : Statement) → good c held mask s ≡ true → Quorum c held s
+  pub quorum : good c held mask s ≡ true → Quorum c held s
   -- it stays good as the record grows
-  pub grows : (c : Council) (held more : Signature → Bool) (mask : ℕ) (s : Statement) → Grows held more → good c held mask s ≡ true → good c more mask s ≡ true
+  pub grows : (more : Signature → Bool) → Grows held more → good c held mask s ≡ true → good c more mask s ≡ true
   -- a mask of 64 bits that names exactly a quorum of the council's posts, all of whom signed, is good
-  pub exact : (c : Council) (held : Signature → Bool) (mask : ℕ) (s : Statement) → mask < 2 ^ 64 → Inside mask (c .n) → tally mask ≡ c .quorum → AllSigned held mask s → good c held mask s ≡ true
+  pub exact : mask < 2 ^ 64 → Inside mask (c .n) → tally mask ≡ c .quorum → AllSigned held mask s → good c held mask s ≡ true

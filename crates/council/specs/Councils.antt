@@ -11,7 +11,7 @@ use Rattle.refusals.specs.declared.Refusal.the-variants.{BadOpening}
 use Rattle.masks.specs.Masks.{count}
 use Rattle.council.specs.declared.council.Council.{Council}
 
--- what forming a council answers: one that stands f bad posts, or a refusal where f is not 1 to 21
+-- what forming a council answers: one that withstands f bad posts, or a refusal where f is not 1 to 21
 abbrev pub Formed : ℕ → Result Council Refusal → Type 0
 Formed f (Ok c) = c .f ≡ f
 Formed f (Err e) = (e ≡ BadOpening) × (1 ≤ f → f ≤ 21 → ⊥)

@@ -16,6 +16,7 @@ use Rattle.council.specs.Statements.{same-statement}
 abbrev pub by : ℕ → Statement → Signature
 by p s = record { signer = p; statement = s }
 
+-- x and y are one signature
 abbrev pub same : Signature → Signature → Bool
 same x y = eqb (x .signer) (y .signer) && same-statement (x .statement) (y .statement)
 

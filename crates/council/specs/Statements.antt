@@ -30,8 +30,9 @@ pub record Shape (n : ℕ) (s : Statement) : Type 0 where
   pub view : (1 ≤ s .view) × (s .view ≤ last-view)
   pub kind : (s ≡ skipping (s .view)) ⊎ OfBroadcast n s
 
--- the same, as tests
+-- ---- the same, as tests
 
+-- s and t are one statement
 abbrev pub same-statement : Statement → Statement → Bool
 same-statement s t = eqb (s .view) (t .view) && (eqb (s .lead) (t .lead) && (eqb (s .step) (t .step) && eqb (s .edition) (t .edition)))
 

@@ -14,7 +14,7 @@ use masks::mask::within;
 pub fn is_good<R: Record>(council: &Council, book: &R, mask: u64, statement: &Statement) -> bool
     ensures value { λ r. ⌜ r ≡ good (now (council .entry)) (held (now (book .entry))) mask (now (statement .entry)) ⌝ }
     ensures rule { λ r. ⌜ Decides r (Certifies (now (council .entry)) (held (now (book .entry))) mask (now (statement .entry))) ⌝ }
-    ensures laws { λ _. ⌜ CertificateLaws ⌝ }
+    ensures laws { λ _. ⌜ CertificateLaws (now (council .entry)) (held (now (book .entry))) mask (now (statement .entry)) ⌝ }
 {
     certifies(council, book, mask, statement)
 }

@@ -8,8 +8,11 @@ mod calls;
 // group). Every council there is keeps what its ghost fields say, so no call asks it of its caller.
 #[derive(Clone, Copy, Debug)]
 pub struct Council {
+    // How many may be bad.
     f: u8,
+    // How many there are.
     n: u8,
+    // How many make a quorum.
     quorum: u8,
     ghost range: { (1 ≤ f) × (f ≤ 21) },
     ghost posts: { n ≡ 3 * f + 1 },

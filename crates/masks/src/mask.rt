@@ -3,7 +3,7 @@
 ghost use mathlib.Core.Bool.{_||_, true};
 ghost use mathlib.Core.Path.{_≡_};
 ghost use lib.Dec.{eqb};
-ghost use Prim.Native.Nat.{ℕ, _<_, _≤_, _^_};
+ghost use Prim.Native.Nat.{ℕ, _<_, _≤_};
 ghost use Rattle.std.specs.Orderings.{Decides};
 ghost use Rattle.masks.specs.Masks.{Inside, named, naming, tally};
 
@@ -36,8 +36,7 @@ pub fn size(mask: u64) -> u8
 
 // Whether the mask names posts below `n` alone.
 pub fn within(mask: u64, n: u8) -> bool
-    ensures number { λ r. ⌜ Decides r (mask < 2 ^ n) ⌝ }
-    ensures posts { λ r. ⌜ Decides r (Inside mask n) ⌝ }
+    ensures { λ r. ⌜ Decides r (Inside mask n) ⌝ }
 {
     n >= 64 || mask >> n == 0
 }

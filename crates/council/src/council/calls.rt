@@ -6,7 +6,7 @@ use crate::council::Council;
 use refusals::Refusal;
 
 impl Council {
-    // The council that stands `f` bad posts, 1 to 21.
+    // The council that withstands `f` bad posts. Refused: f is not 1 to 21.
     pub fn new(f: u8) -> Result<Council, Refusal>
         ensures { λ r. ⌜ Formed f r ⌝ }
     {

@@ -11,5 +11,5 @@ returns g c =
     record {
       value = same-from-decides (c .certifies .result) (good council held (c .args .mask) s) (c .certifies .ensures) (good-decides council held (c .args .mask) s (c .fits .mask .fits));
       rule = c .certifies .ensures;
-      laws = certificate-laws;
+      laws = certificate-laws council held (c .args .mask) s;
     }
