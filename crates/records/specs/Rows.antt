@@ -3,8 +3,12 @@
 use mathlib.Core.Bool.{Bool, true, false, not, _&&_, _||_}
 use mathlib.Core.Path.{_≡_}
 use mathlib.Core.List.{List, [], _∷_}
-use Prim.Native.Nat.{ℕ, _+_}
+use Prim.Native.Nat.{ℕ, _+_, _<_}
 use lib.Dec.{ltb}
+use lib.ListN.{length}
+use Rattle.std.specs.declared.option.Option.{Option}
+use Rattle.std.specs.declared.option.Option.the-variants.{Some, None}
+use Rattle.std.specs.Places.{At}
 use Rattle.masks.specs.Masks.{named, tally}
 use Rattle.council.specs.declared.statement.Statement.{Statement}
 use Rattle.council.specs.declared.statement.Signature.{Signature}
@@ -16,6 +20,11 @@ use Rattle.records.specs.declared.row.Row.{Row}
 abbrev pub stated : List Row → Statement → Bool
 stated [] s = false
 stated (r ∷ rs) s = same-statement (r .statement) s || stated rs s
+
+-- the place of a row on the statement, or that no row is on it
+abbrev pub Found : List Row → Statement → Option ℕ → Type 0
+Found rs s (Some i) = (i < length rs) × At (λ r. r .statement ≡ s) rs i
+Found rs s None = stated rs s ≡ false
 
 -- no two rows are on one statement
 abbrev pub apart : List Row → Bool

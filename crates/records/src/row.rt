@@ -1,12 +1,9 @@
 // The rows of a sheet.
-ghost use lib.ListN.{length};
 ghost use mathlib.Core.Bool.{false, true};
 ghost use mathlib.Core.Path.{_≡_};
 ghost use Prim.Native.Nat.{_+_, _<_, _≤_};
 ghost use Rattle.std.specs.Of.Vec.{vec-cap, vec-items, vec-len};
-ghost use Rattle.std.specs.Options.{Cases as BySome};
-ghost use Rattle.std.specs.Places.{At};
-ghost use Rattle.records.specs.Rows.{MarkedToo, apart, marked, stated};
+ghost use Rattle.records.specs.Rows.{Found, MarkedToo, apart, marked};
 use council::statement::Signature;
 use council::statement::Statement;
 use council::statement::StatementPartialEq;
@@ -21,7 +18,7 @@ pub struct Row {
 
 // The place of the row on the statement.
 pub(crate) fn find(rows: &[Row], statement: &Statement) -> Option<usize>
-    ensures { λ r. ⌜ BySome r (stated (now (rows .entry)) (now (statement .entry)) ≡ false) (λ i. (i < length (now (rows .entry))) × At (λ row. row .statement ≡ now (statement .entry)) (now (rows .entry)) i) ⌝ }
+    ensures { λ r. ⌜ Found (now (rows .entry)) (now (statement .entry)) r ⌝ }
 {
     for (i, row) in rows.iter().enumerate() {
         if row.statement == *statement {
