@@ -40,6 +40,7 @@ pub impl PartialEq<Statement> for Statement as StatementPartialEq {
     }
 }
 
+// Two signatures are one if post and statement are.
 pub impl PartialEq<Signature> for Signature as SignaturePartialEq {
     ghost equals = { λ x y r. Decides r (x ≡ y) };
 

@@ -26,6 +26,7 @@ impl ListCheck {
     }
 }
 
+// 0 is left out, whether it stands in the list or not.
 pub impl Check for ListCheck as ListCheckCheck {
     ghost admitted = { λ s. in-list (vec-items (s .editions)) };
 

@@ -7,6 +7,7 @@ use council::check::Check;
 #[derive(Clone, Copy)]
 pub struct RemainderCheck;
 
+// 0 leaves remainder 0, so it needs no test of its own.
 pub impl Check for RemainderCheck as RemainderCheckCheck {
     ghost admitted = { λ _. remainder-one };
 

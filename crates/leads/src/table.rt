@@ -17,6 +17,7 @@ pub struct Table {
     ghost under: { AllUnder n (vec-items entries) },
 }
 
+// Entries are below n and there is one at least, so each view has a lead.
 pub impl Draw for Table as TableDraw {
     ghost size = { λ s. s .n };
 

@@ -12,6 +12,7 @@ pub struct Turn {
     ghost range: { Drawable n },
 }
 
+// The sum is taken in 32 bits, where no view and offset overflow.
 pub impl Draw for Turn as TurnDraw {
     ghost size = { λ s. s .n };
 

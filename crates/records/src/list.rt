@@ -60,6 +60,7 @@ impl ListRecord {
     }
 }
 
+// It holds what stands in the list.
 pub impl Record for ListRecord as ListRecordRecord {
     ghost held = { λ s. listed (vec-items (s .signatures)) };
 

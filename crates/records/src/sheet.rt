@@ -56,6 +56,7 @@ impl SheetRecord {
     }
 }
 
+// It holds what its rows mark.
 pub impl Record for SheetRecord as SheetRecordRecord {
     ghost held = { λ s. on-sheet (vec-items (s .rows)) };
 
