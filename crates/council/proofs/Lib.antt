@@ -1,4 +1,5 @@
 pub mod Quorums
+pub mod Tests
 pub mod Same
 pub mod Empty
 pub mod Certified

@@ -1,10 +1,10 @@
 -- The tests of equality decide equality. Assumes nothing.
 use mathlib.Core.Path.{_≡_, refl, sym, ap, fun-ext, _∙_}
-use mathlib.Core.Bool.{Bool, true, false, _||_}
+use mathlib.Core.Bool.{Bool, true, _||_}
 use mathlib.Core.Logic.{inl, inr}
 use lib.Dec.{eqb}
 use Rattle.std.specs.Orderings.{Decides}
-use Rattle.std.proofs.shelf.Tests.{eqb-true, eq-eqb, and-parts, and-from, cases-bool, both-ways, or-left}
+use Rattle.std.proofs.shelf.Tests.{eqb-true, eq-eqb, and-parts, and-from, cases-bool, or-left}
 use Rattle.council.specs.declared.statement.Statement.{Statement}
 use Rattle.council.specs.declared.statement.Signature.{Signature}
 use Rattle.council.specs.Statements.{same-statement}
@@ -33,9 +33,6 @@ same-self x = and-from _ _ (eq-eqb (x .signer) _ refl) (same-statement-self (x .
 
 pub decides-same : (x y : Signature) → Decides (same x y) (x ≡ y)
 decides-same x y = (same-path x y, λ e. ap (same x) (sym e) ∙ same-self x)
-
-pub same-swap : (x y : Signature) → same x y ≡ false → same y x ≡ false
-same-swap x y h = elim (cases-bool (same y x)) [ inl e ↦ absurd (both-ways (same x y) h (decides-same x y .1 (sym (same-path y x e)))) | inr e ↦ e ]
 
 -- adding what is held changes nothing
 pub adding-held : (held : Signature → Bool) (x : Signature) → held x ≡ true → adding held x ≡ held

@@ -1,4 +1,5 @@
 pub mod Councils
+pub mod Lists
 pub mod Statements
 pub mod Signatures
 pub mod Signing

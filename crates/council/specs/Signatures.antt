@@ -1,7 +1,7 @@
 -- Sets of signatures, as tests, and the posts behind a statement.
 -- A reader must believe: `adding`, a set with one member more, and `Numbers`, how many a set has.
 use mathlib.Core.Path.{_≡_}
-use mathlib.Core.Bool.{Bool, true, false, not, _&&_, _||_}
+use mathlib.Core.Bool.{Bool, true, not, _&&_, _||_}
 use mathlib.Core.List.{List, [], _∷_}
 use Prim.Native.Nat.{ℕ, _≤_}
 use lib.Dec.{eqb}
@@ -10,6 +10,7 @@ use Rattle.masks.specs.Masks.{count}
 use Rattle.council.specs.declared.council.Council.{Council}
 use Rattle.council.specs.declared.statement.Statement.{Statement}
 use Rattle.council.specs.declared.statement.Signature.{Signature}
+use Rattle.council.specs.Lists.{any}
 use Rattle.council.specs.Statements.{same-statement}
 
 -- the signature of post p on the statement s
@@ -30,8 +31,7 @@ Grows held more = (x : Signature) → held x ≡ true → more x ≡ true
 
 -- the list has the signature
 abbrev pub listed : List Signature → Signature → Bool
-listed [] x = false
-listed (y ∷ ys) x = same y x || listed ys x
+listed l x = any (λ y. same y x) l
 
 -- no signature stands twice in the list
 abbrev pub distinct : List Signature → Bool

@@ -47,9 +47,6 @@ pub tally-ones : (m : ℕ) → m < 2 ^ 64 → tally m ≡ ones m
 unfolding tally
 tally-ones m h = count-ones 64 m h
 
-pub tally-most : (m : ℕ) → m < 2 ^ 64 → tally m ≤ 64
-tally-most m h = omega (arith, tally-ones m h, ones-le 64 m h)
-
 -- where a mask names posts below n alone, it names as many as it names below n
 pub tally-inside : (n m : ℕ) → n ≤ 64 → Inside m n → tally m ≡ count n (named m)
 unfolding tally

@@ -1,7 +1,7 @@
 -- Lists of signatures: what they have, one more at the end, and who is behind a statement. Assumes
 -- nothing.
 use mathlib.Core.Path.{_≡_, refl, sym, ap, fun-ext, _∙_}
-use mathlib.Core.Bool.{Bool, true, false, not, _||_}
+use mathlib.Core.Bool.{Bool, true, false, not}
 use mathlib.Core.List.{List, [], _∷_, _++_}
 use mathlib.Core.Logic.{_⊎_, inl, inr, ⊎-elim}
 use Prim.Native.Nat.{ℕ, _<_}
@@ -11,7 +11,7 @@ use lib.ListN.{length}
 use Rattle.std.specs.Orderings.{Decides}
 use Rattle.std.specs.Places.{At, Some-of}
 use Rattle.std.proofs.shelf.Tests.{lt-ltb, ltb-true, and-parts, and-from, or-cases, or-parts, or-from, not-true, not-from-false, cases-bool, both-ways}
-use Rattle.std.proofs.shelf.Ways.{decides-by-or, decides-and, decides-eqb, same-from-decides}
+use Rattle.std.proofs.shelf.Ways.{decides-and, decides-eqb, same-from-decides}
 use Rattle.masks.specs.Masks.{named}
 use Rattle.masks.specs.Senders.{SentIn}
 use Rattle.council.specs.declared.statement.Statement.{Statement}
@@ -19,12 +19,13 @@ use Rattle.council.specs.declared.statement.Signature.{Signature}
 use Rattle.council.specs.contracts.statement.SignaturePartialEq.the-impl as by-signature
 use Rattle.council.specs.Statements.{same-statement}
 use Rattle.council.specs.Signatures.{adding, by, distinct, listed, same}
-use Rattle.council.proofs.Same.{decides-same, decides-same-statement, same-swap}
+use Rattle.council.proofs.Same.{decides-same, decides-same-statement}
+use Rattle.council.proofs.Tests.{any-push, decided-swap, decides-any}
 use Rattle.records.specs.Lists.{all-masked}
 
 -- a signature is listed where it stands at some place
 pub decides-listed : (l : List Signature) (x : Signature) → Decides (listed l x) ((k : ℕ) × (k < length l) × At (λ y. y ≡ x) l k)
-decides-listed l x = decides-by-or (λ y. same y x) (λ y. y ≡ x) (λ ys. listed ys x) (λ y. decides-same y x) refl (λ _ _. refl) l
+decides-listed l x = decides-any (λ y. same y x) (λ y. y ≡ x) (λ y. decides-same y x) l
 
 -- what `contains` answers
 pub contains-listed : (l : List Signature) (x : Signature) (r : Bool) → Some-of (λ y. by-signature.ghosts .equals y x) l r → r ≡ listed l x
@@ -34,29 +35,18 @@ contains-listed l x false h = elim (cases-bool (listed l x)) [
   | inr e ↦ sym e
 ]
 
--- the second comes to the front
-pub turn : (a b d : Bool) → (a || (b || d)) ≡ (b || (a || d))
-turn true true d = refl
-turn true false d = refl
-turn false true d = refl
-turn false false d = refl
-
 -- ---- one more at the end
-
-listed-push : (l : List Signature) (x y : Signature) → listed (l ++ x ∷ []) y ≡ (same x y || listed l y)
-listed-push [] x y = refl
-listed-push (z ∷ l) x y = ap (λ b. same z y || b) (listed-push l x y) ∙ turn (same z y) (same x y) (listed l y)
 
 pub listed-adding : (l : List Signature) (x : Signature) → listed (l ++ x ∷ []) ≡ adding (listed l) x
 unfolding adding
-listed-adding l x = fun-ext (λ y. listed-push l x y)
+listed-adding l x = fun-ext (λ y. any-push (λ z. same z y) l x)
 
 pub distinct-push : (l : List Signature) (x : Signature) → distinct l ≡ true → listed l x ≡ false → distinct (l ++ x ∷ []) ≡ true
 distinct-push [] x h k = refl
 distinct-push (z ∷ l) x h k =
     let a = and-parts (not (listed l z)) (distinct l) h in
     let b = or-parts (same z x) (listed l x) k in
-    and-from _ _ (not-from-false _ (listed-push l x z ∙ or-from (same x z) (listed l z) (same-swap z x (b .0)) (not-true _ (a .0)))) (distinct-push l x (a .1) (b .1))
+    and-from _ _ (not-from-false _ (any-push (λ y. same y z) l x ∙ or-from (same x z) (listed l z) (decided-swap same decides-same x z ∙ b .0) (not-true _ (a .0)))) (distinct-push l x (a .1) (b .1))
 
 pub masked-push : (l : List Signature) (x : Signature) → all-masked l ≡ true → x .signer < 64 → all-masked (l ++ x ∷ []) ≡ true
 masked-push [] x h k = and-from (ltb (x .signer) 64) true (lt-ltb (x .signer) 64 k) refl
@@ -76,9 +66,8 @@ masked-listed (y ∷ l) x h k =
 
 listed-sent : (l : List Signature) (p : ℕ) (s : Statement) → Decides (listed l (by p s)) (SentIn (λ (x : Signature). x .signer) (λ (x : Signature). x .statement) l (length l) s p)
 listed-sent l p s =
-    decides-by-or (λ y. same y (by p s)) (λ y. (y .signer ≡ p) × (y .statement ≡ s)) (λ ys. listed ys (by p s))
-    (λ y. decides-and (eqb (y .signer) p) (same-statement (y .statement) s) (decides-eqb (y .signer) p) (decides-same-statement (y .statement) s))
-    refl (λ _ _. refl) l
+    decides-any (λ y. same y (by p s)) (λ y. (y .signer ≡ p) × (y .statement ≡ s))
+    (λ y. decides-and (eqb (y .signer) p) (same-statement (y .statement) s) (decides-eqb (y .signer) p) (decides-same-statement (y .statement) s)) l
 
 pub signers-listed : (l : List Signature) (s : Statement) (mask p : ℕ) → all-masked l ≡ true → Decides (named mask p) ((p < 64) × SentIn (λ (x : Signature). x .signer) (λ (x : Signature). x .statement) l (length l) s p) → named mask p ≡ listed l (by p s)
 signers-listed l s mask p low h = same-from-decides (named mask p) (listed l (by p s)) h (

@@ -10,8 +10,8 @@ use lib.ListN.{length, getD, set}
 use Rattle.std.specs.Orderings.{Decides}
 use Rattle.std.specs.Places.{At, Every}
 use Rattle.std.proofs.shelf.Lists.{getD-default}
-use Rattle.std.proofs.shelf.Tests.{eqb-true, eq-eqb, ne-eqb, lt-ltb, and-parts, and-from, and-right, or-parts, or-from, not-true, not-from-false, cases-bool, both-ways}
-use Rattle.std.proofs.shelf.Ways.{decides-by-or}
+use Rattle.std.proofs.shelf.Tests.{lt-ltb, and-parts, and-from, and-right, or-parts, or-from, not-true, not-from-false, cases-bool, both-ways}
+use Rattle.std.proofs.shelf.Ways.{decides-eqb}
 use Rattle.masks.specs.Masks.{named, naming, tally}
 use Rattle.masks.proofs.Naming.{named-zero, named-naming}
 use Rattle.masks.proofs.Tallies.{tally-naming, tally-none}
@@ -20,14 +20,14 @@ use Rattle.council.specs.declared.statement.Signature.{Signature}
 use Rattle.council.specs.Statements.{same-statement}
 use Rattle.council.specs.Signatures.{adding, by, same}
 use Rattle.council.proofs.Same.{decides-same, decides-same-statement}
+use Rattle.council.proofs.Tests.{any-push, decided-swap, decides-any, turn}
 use Rattle.records.specs.declared.row.Row.{Row}
-use Rattle.records.proofs.Listed.{turn}
 use Rattle.records.specs.Rows.{MarkedToo, apart, marked, marks, on-sheet, stated, total}
 
 -- ---- which statements have a row
 
 decides-stated : (rs : List Row) (s : Statement) → Decides (stated rs s) ((k : ℕ) × (k < length rs) × At (λ r. r .statement ≡ s) rs k)
-decides-stated rs s = decides-by-or (λ r. same-statement (r .statement) s) (λ r. r .statement ≡ s) (λ ts. stated ts s) (λ r. decides-same-statement (r .statement) s) refl (λ _ _. refl) rs
+decides-stated rs s = decides-any (λ r. same-statement (r .statement) s) (λ r. r .statement ≡ s) (λ r. decides-same-statement (r .statement) s) rs
 
 pub stated-none : (rs : List Row) (s : Statement) → Every (λ r. r .statement ≡ s → ⊥) rs 0 (length rs) → stated rs s ≡ false
 stated-none rs s h = elim (cases-bool (stated rs s)) [
@@ -40,12 +40,6 @@ stated-none rs s h = elim (cases-bool (stated rs s)) [
 
 stated-at : (rs : List Row) (i : ℕ) (d : Row) (s : Statement) → i < length rs → getD rs i d .statement ≡ s → stated rs s ≡ true
 stated-at rs i d s l h = decides-stated rs s .1 (i, l, λ e. ap (λ (r : Row). r .statement) (getD-default rs i e d l) ∙ h)
-
-same-statement-swap : (s t : Statement) → same-statement s t ≡ false → same-statement t s ≡ false
-same-statement-swap s t h = elim (cases-bool (same-statement t s)) [
-  | inl e ↦ absurd (both-ways (same-statement s t) h (decides-same-statement s t .1 (sym (decides-same-statement t s .0 e))))
-  | inr e ↦ e
-]
 
 -- ---- what is marked
 
@@ -81,16 +75,10 @@ mix true false n m = refl
 mix false true n m = refl
 mix false false n m = refl
 
-eqb-swap : (a b : ℕ) → eqb a b ≡ eqb b a
-eqb-swap a b = elim (cases-bool (eqb a b)) [
-  | inl e ↦ e ∙ sym (eq-eqb b a (sym (eqb-true a b e)))
-  | inr e ↦ e ∙ sym (ne-eqb b a (λ z. both-ways (eqb a b) e (eq-eqb a b (sym z))))
-]
-
 -- a row that names one post more marks its signature too
 marks-more : (s : Statement) (m q : ℕ) → q < 64 → (y : Signature) (b : Bool) → (marks (record { statement = s; signers = naming m q }) y || b) ≡ (same (by q s) y || (marks (record { statement = s; signers = m }) y || b))
 marks-more s m q low y b =
-    ap (λ t. (same-statement s (y .statement) && t) || b) (named-naming m q (y .signer) low ∙ ap (λ t. t || named m (y .signer)) (eqb-swap (y .signer) q))
+    ap (λ t. (same-statement s (y .statement) && t) || b) (named-naming m q (y .signer) low ∙ ap (λ t. t || named m (y .signer)) (decided-swap eqb decides-eqb (y .signer) q))
     ∙ mix (same-statement s (y .statement)) (eqb q (y .signer)) (named m (y .signer)) b
 
 marked-set : (rs : List Row) (i : ℕ) (d : Row) (q : ℕ) → q < 64 → i < length rs → (y : Signature) → marked (set rs i (record { statement = getD rs i d .statement; signers = naming (getD rs i d .signers) q })) y ≡ (same (by q (getD rs i d .statement)) y || marked rs y)
@@ -99,10 +87,9 @@ marked-set (r ∷ rs) zero d q low l y = marks-more (r .statement) (r .signers) 
 marked-set (r ∷ rs) (suc i) d q low l y = ap (λ b. marks r y || b) (marked-set rs i d q low (omega arith) y) ∙ turn (marks r y) (same (by q (getD rs i d .statement)) y) (marked rs y)
 
 marked-push : (rs : List Row) (s : Statement) (q : ℕ) → q < 64 → (y : Signature) → marked (rs ++ record { statement = s; signers = naming 0 q } ∷ []) y ≡ (same (by q s) y || marked rs y)
-marked-push [] s q low y =
+marked-push rs s q low y =
     let off : marks (record { statement = s; signers = 0 }) y ≡ false = and-right (same-statement s (y .statement)) (named 0 (y .signer)) (named-zero (y .signer)) in
-    marks-more s 0 q low y false ∙ ap (λ b. same (by q s) y || (b || false)) off
-marked-push (r ∷ rs) s q low y = ap (λ b. marks r y || b) (marked-push rs s q low y) ∙ turn (marks r y) (same (by q s) y) (marked rs y)
+    any-push (λ r. marks r y) rs (record { statement = s; signers = naming 0 q }) ∙ marks-more s 0 q low y (marked rs y) ∙ ap (λ b. same (by q s) y || (b || marked rs y)) off
 
 -- ---- the rows stay apart
 
@@ -116,17 +103,13 @@ apart-set [] i d new l on = absurd (omega arith)
 apart-set (r ∷ rs) zero d new l on = ap (λ t. not (stated rs t) && apart rs) on
 apart-set (r ∷ rs) (suc i) d new l on = ap₂ (λ a b. not a && b) (stated-set rs i d new (r .statement) (omega arith) on) (apart-set rs i d new (omega arith) on)
 
-stated-push : (rs : List Row) (new : Row) (s : Statement) → stated (rs ++ new ∷ []) s ≡ (same-statement (new .statement) s || stated rs s)
-stated-push [] new s = refl
-stated-push (r ∷ rs) new s = ap (λ b. same-statement (r .statement) s || b) (stated-push rs new s) ∙ turn (same-statement (r .statement) s) (same-statement (new .statement) s) (stated rs s)
-
 apart-push : (rs : List Row) (new : Row) → apart rs ≡ true → stated rs (new .statement) ≡ false → apart (rs ++ new ∷ []) ≡ true
 apart-push [] new a h = refl
 apart-push (r ∷ rs) new a h =
     let p = and-parts (not (stated rs (r .statement))) (apart rs) a in
     let n = or-parts (same-statement (r .statement) (new .statement)) (stated rs (new .statement)) h in
     and-from (not (stated (rs ++ new ∷ []) (r .statement))) (apart (rs ++ new ∷ []))
-    (not-from-false _ (stated-push rs new (r .statement) ∙ or-from (same-statement (new .statement) (r .statement)) (stated rs (r .statement)) (same-statement-swap (r .statement) (new .statement) (n .0)) (not-true _ (p .0))))
+    (not-from-false _ (any-push (λ t. same-statement (t .statement) (r .statement)) rs new ∙ or-from (same-statement (new .statement) (r .statement)) (stated rs (r .statement)) (decided-swap same-statement decides-same-statement (new .statement) (r .statement) ∙ n .0) (not-true _ (p .0))))
     (apart-push rs new (p .1) (n .1))
 
 -- ---- how many are marked

@@ -14,6 +14,7 @@ use Rattle.council.specs.declared.statement.Signature.{Signature}
 use Rattle.council.specs.Statements.{same-statement}
 use Rattle.council.specs.Signatures.{by, distinct, listed, same}
 use Rattle.council.proofs.Same.{decides-same-statement, same-self}
+use Rattle.council.proofs.Tests.{any-append}
 use Rattle.records.specs.declared.row.Row.{Row}
 use Rattle.records.specs.Rows.{apart, marked, marks, stated, total}
 use Rattle.records.proofs.Marked.{marked-none}
@@ -28,21 +29,13 @@ spread n (r ∷ rs) = spread-row n r ++ spread n rs
 
 -- ---- lists side by side
 
-assoc : (a b c : Bool) → (a || (b || c)) ≡ ((a || b) || c)
-assoc true b c = refl
-assoc false b c = refl
-
-listed-append : (a b : List Signature) (x : Signature) → listed (a ++ b) x ≡ (listed a x || listed b x)
-listed-append [] b x = refl
-listed-append (y ∷ a) b x = ap (λ t. same y x || t) (listed-append a b x) ∙ assoc (same y x) (listed a x) (listed b x)
-
 distinct-append : (a b : List Signature) → distinct a ≡ true → distinct b ≡ true → ((x : Signature) → listed a x ≡ true → listed b x ≡ false) → distinct (a ++ b) ≡ true
 distinct-append [] b p q off = q
 distinct-append (y ∷ a) b p q off =
     let h = and-parts (not (listed a y)) (distinct a) p in
     let here : listed (y ∷ a) y ≡ true = ap (λ t. t || listed a y) (same-self y) in
     and-from (not (listed (a ++ b) y)) (distinct (a ++ b))
-    (not-from-false _ (listed-append a b y ∙ or-from (listed a y) (listed b y) (not-true _ (h .0)) (off y here)))
+    (not-from-false _ (any-append (λ z. same z y) a b ∙ or-from (listed a y) (listed b y) (not-true _ (h .0)) (off y here)))
     (distinct-append a b (h .1) q (λ x e. off x (or-right (same y x) (listed a x) e)))
 
 -- ---- one row
@@ -106,7 +99,7 @@ and-or false a b = refl
 
 pub listed-spread : (n : ℕ) (rs : List Row) (x : Signature) → listed (spread n rs) x ≡ (ltb (x .signer) n && marked rs x)
 listed-spread n [] x = sym (and-right (ltb (x .signer) n) false refl)
-listed-spread n (r ∷ rs) x = listed-append (spread-row n r) (spread n rs) x ∙ ap₂ (λ a b. a || b) (listed-row r x n) (listed-spread n rs x) ∙ and-or (ltb (x .signer) n) (marks r x) (marked rs x)
+listed-spread n (r ∷ rs) x = any-append (λ z. same z x) (spread-row n r) (spread n rs) ∙ ap₂ (λ a b. a || b) (listed-row r x n) (listed-spread n rs x) ∙ and-or (ltb (x .signer) n) (marks r x) (marked rs x)
 
 pub distinct-spread : (n : ℕ) (rs : List Row) → apart rs ≡ true → distinct (spread n rs) ≡ true
 distinct-spread n [] a = refl

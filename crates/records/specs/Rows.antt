@@ -1,6 +1,6 @@
 -- What the rows of a sheet say: each has a statement and the mask of its signers.
 -- A reader must believe: `on-sheet`, the signatures that a sheet stands for.
-use mathlib.Core.Bool.{Bool, true, false, not, _&&_, _||_}
+use mathlib.Core.Bool.{Bool, true, false, not, _&&_}
 use mathlib.Core.Path.{_≡_}
 use mathlib.Core.List.{List, [], _∷_}
 use Prim.Native.Nat.{ℕ, _+_, _<_}
@@ -12,14 +12,14 @@ use Rattle.std.specs.Places.{At}
 use Rattle.masks.specs.Masks.{named, tally}
 use Rattle.council.specs.declared.statement.Statement.{Statement}
 use Rattle.council.specs.declared.statement.Signature.{Signature}
+use Rattle.council.specs.Lists.{any}
 use Rattle.council.specs.Statements.{same-statement}
 use Rattle.council.specs.Signatures.{adding}
 use Rattle.records.specs.declared.row.Row.{Row}
 
 -- a row is on the statement
 abbrev pub stated : List Row → Statement → Bool
-stated [] s = false
-stated (r ∷ rs) s = same-statement (r .statement) s || stated rs s
+stated rs s = any (λ r. same-statement (r .statement) s) rs
 
 -- the place of a row on the statement, or that no row is on it
 abbrev pub Found : List Row → Statement → Option ℕ → Type 0
@@ -37,8 +37,7 @@ marks r x = same-statement (r .statement) (x .statement) && named (r .signers) (
 
 -- a row marks the signature
 abbrev pub marked : List Row → Signature → Bool
-marked [] x = false
-marked (r ∷ rs) x = marks r x || marked rs x
+marked rs x = any (λ r. marks r x) rs
 
 -- what a sheet holds: what its rows mark, of the signers that have a bit
 abbrev pub on-sheet : List Row → Signature → Bool
