@@ -1,4 +1,6 @@
 // Examples of councils, records, certificates, checks and draws, in a crate of their own.
+#![tactic(auto)]
+
 #[cfg(test)]
 mod certificates;
 #[cfg(test)]

@@ -1,4 +1,6 @@
 // Hexadecimal digits, and numbers in a fixed count of them.
+#![tactic(auto)]
+
 ghost use Rattle.std.specs.Prelude.{◌≡◌, ◌%◌, ◌<◌, length};
 ghost use Rattle.hexadecimal.specs.Hex.{AsNumber, Worth, char_of, digits};
 

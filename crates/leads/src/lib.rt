@@ -1,4 +1,6 @@
 // The two draws: by turns, and by a table.
+#![tactic(auto)]
+
 mod size;
 pub mod table;
 pub mod turn;

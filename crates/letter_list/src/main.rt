@@ -1,5 +1,7 @@
 // Lists a night's letters: reads lines from standard input and says in words what each is, where a
 // line is damaged, and in the end how many there were of each sort.
+#![tactic(auto)]
+
 mod words;
 
 use crate::words::{Damaged, Heading, Listed, Summary};

@@ -1,4 +1,6 @@
 // Letters as lines: six kinds, one layout, one cutter and one writer.
+#![tactic(auto)]
+
 pub mod entry;
 mod fields;
 mod kind;

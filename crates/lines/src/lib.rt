@@ -1,4 +1,6 @@
 // One line: where it ends, what it is, and where its text is damaged.
+#![tactic(auto)]
+
 pub mod buffer;
 pub mod damage;
 pub mod line;

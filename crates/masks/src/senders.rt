@@ -29,7 +29,7 @@ pub trait Entry {
 
 // The mask of the senders of the entries on the matter.
 pub fn senders<E: Entry>(entries: &[E], matter: &E::Matter) -> u64
-    ensures { Senders from about entries.now (length entries.now) matter.now result }
+    ensures { Senders E.from E.about entries.now (length entries.now) matter.now result }
 {
     let mut mask = 0;
     for entry in entries {

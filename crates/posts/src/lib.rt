@@ -1,4 +1,6 @@
 // A post: what it keeps, and how it takes letters.
+#![tactic(auto)]
+
 pub mod post;
 mod publish;
 pub mod seat;

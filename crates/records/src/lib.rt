@@ -1,4 +1,6 @@
 // The two records: a list of signatures, and a sheet with a row for each statement.
+#![tactic(auto)]
+
 pub mod list;
 mod row;
 pub mod sheet;

@@ -1,6 +1,8 @@
 // Why a call is refused. Everything in the project refuses with these, and only this crate knows
 // their numbers.
-ghost use Rattle.std.specs.Prelude.{◌≡◌, ◌≤◌, Decides};
+#![tactic(auto)]
+
+ghost use Rattle.std.specs.Prelude.{◌≡◌, ◌≤◌, ◌==◌, Decides};
 ghost use Rattle.refusals.specs.Numbers.{number_of};
 ghost use Rattle.std.specs.Cmp.Rules.{comparing};
 ghost use Rattle.std.proofs.Common.{rules};
@@ -84,11 +86,14 @@ impl Refusal {
 
 // Written out, since a derived `==` promises nothing of an enum of this size.
 impl PartialEq for Refusal {
-    ghost equals = { λ x y r. Decides r (x ≡ y) };
+    ghost eq = { λ x y. number_of x == number_of y };
 
     ghost laws = { Keys.partial_equiv_from_equiv (Prim.search (comparing, rules)) };
 
-    fn eq(&self, other: &Refusal) -> bool {
+    fn eq(&self, other: &Refusal) -> bool
+        ensures value { result ≡ (number_of self.now == number_of other.now) }
+        ensures same { Decides result (self.now ≡ other.now) }
+    {
         self.number() == other.number()
     }
 }

@@ -20,7 +20,7 @@ loop-entry-preserved g c =
     let exact = g.met.E.Entry.exact c.matter.result m c.eq.result c.eq.ensures in
     elim c.if-eq.branch [
       | then-eq w ↦
-          let new : c.if-eq.mask ≡ naming c.loop-entry.mask (from e) = w.mask-is ∙ w.with-post-mask.ensures.value ∙ ap (naming c.loop-entry.mask) w.sender.ensures in
+          let new : c.if-eq.mask ≡ naming c.loop-entry.mask (from e) = w.mask-is ∙ w.with_post-mask.ensures.value ∙ ap (naming c.loop-entry.mask) w.sender.ensures in
           subst (Senders from about xs _ m) (sym new)
           (senders_with from about xs i e m c.loop-entry-test.true c.entry-item.is c.loop-entry.mask c.loop-entry.invariant (sym c.matter.ensures ∙ exact.0 w.if-eq.true))
       | else-eq w ↦
