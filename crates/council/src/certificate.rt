@@ -9,16 +9,16 @@ use masks::mask::{names_post, size, within};
 
 // Whether the mask is a good certificate of the statement (the field's word: quorum certificate).
 pub fn is_good<R: Record>(council: &Council, book: &R, mask: u64, statement: &Statement) -> bool
-    ensures value { result ≡ good council.now (held book.now) mask statement.now }
-    ensures rule { Decides result (Certifies council.now (held book.now) mask statement.now) }
-    ensures laws { CertificateLaws council.now (held book.now) mask statement.now }
+    ensures value { result ≡ good council.now (R.held book.now) mask statement.now }
+    ensures rule { Decides result (Certifies council.now (R.held book.now) mask statement.now) }
+    ensures laws { CertificateLaws council.now (R.held book.now) mask statement.now }
 {
     certifies(council, book, mask, statement)
 }
 
 // Whether the rule of certificates holds.
 fn certifies<R: Record>(council: &Council, book: &R, mask: u64, statement: &Statement) -> bool
-    ensures { Decides result (Certifies council.now (held book.now) mask statement.now) }
+    ensures { Decides result (Certifies council.now (R.held book.now) mask statement.now) }
 {
     if !within(mask, council.posts()) || size(mask) < council.quorum() {
         return false;
@@ -28,7 +28,7 @@ fn certifies<R: Record>(council: &Council, book: &R, mask: u64, statement: &Stat
 
 // Whether each post below `n` that the mask names signed the statement.
 fn all_signed<R: Record>(n: u8, book: &R, mask: u64, statement: &Statement) -> bool
-    ensures { Decides result (AllSignedBelow n (held book.now) mask statement.now) }
+    ensures { Decides result (AllSignedBelow n (R.held book.now) mask statement.now) }
 {
     for signer in 0..n {
         let signature = Signature {

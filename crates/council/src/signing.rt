@@ -46,7 +46,7 @@ pub trait Record {
 
 // Whether a record holds no signature.
 pub fn is_empty<R: Record>(book: &R) -> bool
-    ensures { Decides result ((x : Signed) → held book.now x ≡ false) }
+    ensures { Decides result ((x : Signed) → R.held book.now x ≡ false) }
 {
     book.count() == 0
 }

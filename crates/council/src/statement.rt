@@ -1,7 +1,7 @@
 // What posts sign.
-ghost use Rattle.std.specs.Prelude.{◌≡◌, Decides, nat_eq};
-ghost use Rattle.std.specs.Ordering.{on, eq_of_both};
-ghost use Rattle.council.specs.Statements.{Shape, of_broadcast, shaped, skipping};
+ghost use Rattle.std.specs.Prelude.{◌≡◌, Decides};
+ghost use Rattle.council.specs.Signatures.{same};
+ghost use Rattle.council.specs.Statements.{Shape, of_broadcast, same_statement, shaped, skipping};
 ghost use Rattle.std.specs.Cmp.Rules.{comparing};
 ghost use Rattle.std.proofs.Common.{rules};
 ghost use Rattle.std.specs.Cmp as Keys;
@@ -34,11 +34,14 @@ pub struct Signature {
 
 // Written out, so that the contract says equality and not a relation field by field.
 impl PartialEq for Statement {
-    ghost eq = { eq_of_both (on (λ v. v.view) nat_eq) (eq_of_both (on (λ v. v.lead) nat_eq) (eq_of_both (on (λ v. v.step) nat_eq) (on (λ v. v.edition) nat_eq))) };
+    ghost eq = { same_statement };
 
     ghost laws = { Keys.partial_equiv_from_equiv (Prim.search (comparing, rules)) };
 
-    fn eq(&self, other: &Statement) -> bool {
+    fn eq(&self, other: &Statement) -> bool
+        ensures value { result ≡ same_statement self.now other.now }
+        ensures same { Decides result (self.now ≡ other.now) }
+    {
         self.view == other.view
             && self.lead == other.lead
             && self.step == other.step
@@ -48,11 +51,14 @@ impl PartialEq for Statement {
 
 // Two signatures are one if post and statement are.
 impl PartialEq for Signature {
-    ghost equals = { λ x y r. Decides r (x ≡ y) };
+    ghost eq = { same };
 
     ghost laws = { Keys.partial_equiv_from_equiv (Prim.search (comparing, rules)) };
 
-    fn eq(&self, other: &Signature) -> bool {
+    fn eq(&self, other: &Signature) -> bool
+        ensures value { result ≡ same self.now other.now }
+        ensures same { Decides result (self.now ≡ other.now) }
+    {
         self.statement == other.statement && self.signer == other.signer
     }
 }
