@@ -1,7 +1,8 @@
--- The list of the signatures that the rows of a sheet mark. Assumes nothing.
-use Rattle.std.specs.Prelude.{◌≡◌, ℕ, zero, suc, ◌+◌, Bool, true, false, cond, not, ◌&&◌, ◌||◌, ◌⊎◌, List, [], ◌∷◌, ◌++◌, length, ◌≢◌, nat_lt, refl}
+-- The list of the signatures that the rows of a sheet mark, on which the laws of the sheet record rest.
+-- A reader must believe: nothing here. All of it is proved.
+use Rattle.std.specs.Prelude.{◌≡◌, ℕ, zero, suc, ◌+◌, Bool, true, false, cond, not, ◌&&◌, ◌||◌, List, [], ◌∷◌, ◌++◌, length, ◌≢◌, nat_lt, refl}
 use Rattle.std.proofs.Common.{sym, ap, ap₂, ◌∙◌, ⊎_elim, arith, length-append}
-use Rattle.std.proofs.lemmas.Bool.{eq-eqb, ne_eqb, lt-ltb, le-ltb, and_parts, and_from, and_left, and_right, or_from, or_right, not-true, not_from_false, cases_eq}
+use Rattle.std.proofs.lemmas.Bool.{eq-eqb, ne_eqb, lt-ltb, le-ltb, and_parts, and_from, and_left, and_right, or_parts, or_from, or_right, not-true, not_from_false, cases_eq}
 use Rattle.std.proofs.lemmas.Bool.Decides.{nat_tests}
 use Rattle.masks.specs.Masks.{count, named, tally}
 use Rattle.council.specs.declared.statement.Signature.{Signature}
@@ -11,7 +12,6 @@ use Rattle.council.proofs.Same.{decides-same_statement, same_self}
 use Rattle.council.proofs.Tests.{any_append}
 use Rattle.records.specs.declared.row.Row.{Row}
 use Rattle.records.specs.Rows.{apart, marked, marks, stated, total}
-use Rattle.records.specs.Marked.{marked_none}
 
 abbrev spread_row : ℕ → Row → List Signature
 spread_row zero r = []
@@ -20,6 +20,14 @@ spread_row (suc n) r = cond (named r.signers n) (by n r.statement ∷ spread_row
 abbrev pub spread : ℕ → List Row → List Signature
 spread n [] = []
 spread n (r ∷ rs) = spread_row n r ++ spread n rs
+
+-- ---- what is marked
+
+pub marked_none : (rs : List Row) (x : Signature) → stated rs x.statement ≡ false → marked rs x ≡ false
+marked_none [] x h = refl
+marked_none (r ∷ rs) x h =
+    let p = or_parts (same_statement r.statement x.statement) (stated rs x.statement) h in
+    or_from (marks r x) (marked rs x) (ap (λ b. b && named r.signers x.signer) p.0) (marked_none rs x p.1)
 
 -- ---- lists side by side
 

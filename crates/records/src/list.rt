@@ -1,10 +1,9 @@
 // A record that is a list of signatures.
 ghost use Rattle.std.specs.Prelude.{◌≡◌, ℕ, ◌+◌, ◌<◌, ◌≤◌, true, false, [], IfOk, vec_len, vec_capacity, refl};
-ghost use Rattle.std.proofs.Common.{sym, rules, arith};
+ghost use Rattle.std.proofs.Common.{sym};
 ghost use Rattle.masks.specs.Masks.{named};
 ghost use Rattle.council.specs.Signatures.{adding, by, distinct, listed};
-ghost use Rattle.records.specs.Lists.{all_masked};
-ghost use Rattle.records.specs.Listed.{masked_listed};
+ghost use Rattle.records.specs.Lists.{all_masked, masked_listed};
 
 use council::signing::Record;
 use council::statement::{Signature, Statement};
@@ -66,7 +65,7 @@ impl Record for ListRecord {
 
     ghost masked = { λ s x h. masked_listed s.signatures.items x s.masked h };
 
-    ghost within = { first_of (Prim.search rules, Prim.grind (arith, Self.row.coded.inj)) };
+    ghost within = { λ s. s.room.0 };
 
     fn holds(&self, signature: &Signature) -> bool {
         self.signatures.contains(signature)

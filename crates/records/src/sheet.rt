@@ -1,8 +1,9 @@
 // A record that is a sheet with a row for each statement.
-ghost use Rattle.std.specs.Prelude.{◌≡◌, ◌+◌, ◌<◌, ◌≤◌, true, false, [], IfOk, vec_len, vec_capacity};
-ghost use Rattle.std.proofs.Common.{sym, ◌∙◌, rules, arith};
+ghost use Rattle.std.specs.Prelude.{◌≡◌, ◌+◌, ◌<◌, ◌≤◌, true, false, [], IfOk, nat_lt, vec_len, vec_capacity};
+ghost use Rattle.std.proofs.Common.{sym, ◌∙◌};
+ghost use Rattle.std.proofs.lemmas.Bool.{ltb-true, and_parts};
 ghost use Rattle.council.specs.Signatures.{adding};
-ghost use Rattle.records.specs.Rows.{apart, on_sheet, total};
+ghost use Rattle.records.specs.Rows.{apart, marked, on_sheet, total};
 ghost use Rattle.records.specs.Spread.{spread, listed-spread, distinct-spread, length-spread};
 
 use crate::row::{Row, find, mark};
@@ -63,9 +64,9 @@ impl Record for SheetRecord {
         let rs = s.rows.items in
         (spread 64 rs, distinct-spread 64 rs s.once, length-spread rs ∙ s.counted, λ x. sym (listed-spread 64 rs x)) };
 
-    ghost masked = { first_of (Prim.search rules, Prim.grind (arith, Self.row.coded.inj)) };
+    ghost masked = { λ s x h. ltb-true x.signer 64 (and_parts (nat_lt x.signer 64) (marked s.rows.items x) h).0 };
 
-    ghost within = { first_of (Prim.search rules, Prim.grind (arith, Self.row.coded.inj)) };
+    ghost within = { λ s. s.room.1 };
 
     fn holds(&self, signature: &Signature) -> bool {
         match find(&self.rows, &signature.statement) {

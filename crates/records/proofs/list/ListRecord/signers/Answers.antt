@@ -3,7 +3,7 @@ use Rattle.council.specs.declared.statement.Signature.{Signature}
 use Rattle.council.specs.Signatures.{by, listed}
 use Rattle.masks.specs.Masks.{named}
 use Rattle.records.specs.Lists.{all_masked}
-use Rattle.records.specs.Listed.{signers-listed}
+use Rattle.records.proofs.Listed.{signers-listed}
 use Rattle.records.proofs.list.ListRecord.signers.Goals as goal
 
 pub returns : goal.returns

@@ -1,6 +1,6 @@
 use Rattle.std.proofs.Common.{ap, ◌∙◌}
 use Rattle.council.specs.Signatures.{listed}
-use Rattle.records.specs.Listed.{contains-listed}
+use Rattle.records.proofs.Listed.{contains-listed}
 use Rattle.records.proofs.list.ListRecordRecord.holds.Goals as goal
 
 pub returns : goal.returns

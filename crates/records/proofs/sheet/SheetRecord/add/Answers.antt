@@ -1,5 +1,5 @@
 use Rattle.std.proofs.Common.{vec_items, refl}
-use Rattle.records.specs.Marked.{sheet_adding}
+use Rattle.records.proofs.Marked.{sheet_adding}
 use Rattle.records.proofs.sheet.SheetRecord.add.Goals as goal
 
 pub returns : goal.returns

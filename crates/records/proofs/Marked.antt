@@ -17,6 +17,7 @@ use Rattle.council.proofs.Same.{decides-same, decides-same_statement}
 use Rattle.council.proofs.Tests.{any_push, decided_swap, decides-any, turn}
 use Rattle.records.specs.declared.row.Row.{Row}
 use Rattle.records.specs.Rows.{MarkedToo, apart, marked, marks, on_sheet, stated, total}
+use Rattle.records.specs.Spread.{marked_none}
 
 -- ---- which statements have a row
 
@@ -36,12 +37,6 @@ stated_at : (rs : List Row) (i : ℕ) (d : Row) (s : Statement) → i < length r
 stated_at rs i d s l h = (decides-stated rs s).1 (i, l, λ e. ap (λ (r : Row). r.statement) (get_or_default rs i e d l) ∙ h)
 
 -- ---- what is marked
-
-pub marked_none : (rs : List Row) (x : Signature) → stated rs x.statement ≡ false → marked rs x ≡ false
-marked_none [] x h = refl
-marked_none (r ∷ rs) x h =
-    let p = or_parts (same_statement r.statement x.statement) (stated rs x.statement) h in
-    or_from (marks r x) (marked rs x) (ap (λ b. b && named r.signers x.signer) p.0) (marked_none rs x p.1)
 
 or_false : (b : Bool) → (b || false) ≡ b
 or_false true = refl

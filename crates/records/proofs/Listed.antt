@@ -1,31 +1,30 @@
 -- Lists of signatures: what they have, one more at the end, and who is behind a statement. Assumes
 -- nothing.
-use Rattle.std.specs.Prelude.{◌≡◌, ℕ, ◌<◌, Bool, true, false, not, ◌⊎◌, List, [], ◌∷◌, ◌++◌, length, Decides, ◌==◌, nat_lt, refl}
-use Rattle.std.proofs.Common.{sym, ap, ◌∙◌, inl, inr, ⊎_elim, arith}
+use Rattle.std.specs.Prelude.{◌≡◌, ℕ, ◌<◌, Bool, true, false, not, List, [], ◌∷◌, ◌++◌, length, Decides, ◌==◌, nat_lt, refl}
+use Rattle.std.proofs.Common.{sym, ◌∙◌, inl, inr, arith}
 use Rattle.std.proofs.Math.Path.{fun_ext}
 use Rattle.std.specs.List.{HoldsAt, IsAnyAnswer}
-use Rattle.std.proofs.lemmas.Bool.{lt-ltb, ltb-true, and_parts, and_from, or_cases, or_parts, or_from, not-true, not_from_false, cases_Bool, both_ways}
+use Rattle.std.proofs.lemmas.Bool.{lt-ltb, and_parts, and_from, or_parts, or_from, not-true, not_from_false, cases_Bool, both_ways}
 use Rattle.std.proofs.lemmas.Bool.Decides.{Decides-and, Decides-eqb, same_from_decides}
 use Rattle.masks.specs.Masks.{named}
 use Rattle.masks.specs.Senders.{SentIn}
 use Rattle.council.specs.declared.statement.Statement.{Statement}
 use Rattle.council.specs.declared.statement.Signature.{Signature}
-use Rattle.council.specs.contracts.statement.SignaturePartialEq.TheImpl as by-signature
 use Rattle.council.specs.Statements.{same_statement}
 use Rattle.council.specs.Signatures.{adding, by, distinct, listed, same}
 use Rattle.council.proofs.Same.{decides-same, decides-same_statement}
 use Rattle.council.proofs.Tests.{any_push, decided_swap, decides-any}
-use Rattle.records.specs.Lists.{all_masked}
+use Rattle.records.specs.Lists.{all_masked, masked_listed}
 
 -- a signature is listed where it stands at some place
 pub decides-listed : (l : List Signature) (x : Signature) → Decides (listed l x) ((k : ℕ) × (k < length l) × HoldsAt (λ y. y ≡ x) l k)
 decides-listed l x = decides-any (λ y. same y x) (λ y. y ≡ x) (λ y. decides-same y x) l
 
 -- what `contains` answers
-pub contains-listed : (l : List Signature) (x : Signature) (r : Bool) → IsAnyAnswer (λ y. (λ r'. r' ≡ (by-signature.ghosts).eq y x)) l r → r ≡ listed l x
-contains-listed l x true h = sym ((decides-listed l x).1 (h.0, h.1, λ d. (h.2 d).0 refl))
+pub contains-listed : (l : List Signature) (x : Signature) (r : Bool) → IsAnyAnswer (λ y b. same y x ≡ b) l r → r ≡ listed l x
+contains-listed l x true h = sym ((decides-listed l x).1 (h.0, h.1, λ d. (decides-same _ x).0 (h.2 d)))
 contains-listed l x false h = elim (cases_Bool (listed l x)) [
-  | inl e ↦ let w = (decides-listed l x).0 e in absurd (both_ways false refl ((h w.0 x (omega arith) w.1).1 (w.2 x)))
+  | inl e ↦ let w = (decides-listed l x).0 e in absurd (both_ways false refl (sym (h w.0 x (omega arith) w.1) ∙ (decides-same _ x).1 (w.2 x)))
   | inr e ↦ sym e
 ]
 
@@ -47,14 +46,6 @@ masked_push [] x h k = and_from (nat_lt x.signer 64) true (lt-ltb x.signer 64 k)
 masked_push (y ∷ l) x h k =
     let a = and_parts (nat_lt y.signer 64) (all_masked l) h in
     and_from (nat_lt y.signer 64) (all_masked (l ++ x ∷ [])) a.0 (masked_push l x a.1 k)
-
--- ---- signers have a bit
-
-pub masked_listed : (l : List Signature) (x : Signature) → all_masked l ≡ true → listed l x ≡ true → x.signer < 64
-masked_listed [] x h k = absurd (both_ways false refl k)
-masked_listed (y ∷ l) x h k =
-    let a = and_parts (nat_lt y.signer 64) (all_masked l) h in
-    ⊎_elim (λ e. omega (arith, ltb-true y.signer 64 a.0, ap (λ (z : Signature). z.signer) ((decides-same y x).0 e))) (λ e. masked_listed l x a.1 e) (or_cases (same y x) (listed l x) k)
 
 -- ---- who is behind a statement
 
