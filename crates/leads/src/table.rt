@@ -1,7 +1,7 @@
 // A draw by a table.
 ghost use Rattle.std.specs.Prelude.{◌<◌, length};
 ghost use Rattle.leads.specs.Leads.{AllUnder, Drawable, by_table};
-ghost use Rattle.std.proofs.Common.{rules, arith};
+ghost use Rattle.std.proofs.Common.{rules};
 
 use council::draw::Draw;
 
@@ -23,7 +23,7 @@ impl Draw for Table {
 
     ghost lead = { λ s. by_table s.entries.items };
 
-    ghost below = { first_of (Prim.search rules, Prim.grind (arith, Self.row.coded.inj)) };
+    ghost below = { Prim.search rules };
 
     fn posts(&self) -> u8 {
         self.n

@@ -1,6 +1,6 @@
 // A draw by turns.
 ghost use Rattle.leads.specs.Leads.{Drawable, by_turns};
-ghost use Rattle.std.proofs.Common.{rules, arith};
+ghost use Rattle.std.proofs.Common.{rules};
 
 use council::draw::Draw;
 
@@ -20,7 +20,7 @@ impl Draw for Turn {
 
     ghost lead = { λ s. by_turns s.n s.offset };
 
-    ghost below = { first_of (Prim.search rules, Prim.grind (arith, Self.row.coded.inj)) };
+    ghost below = { Prim.search rules };
 
     fn posts(&self) -> u8 {
         self.n
