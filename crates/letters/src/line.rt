@@ -1,6 +1,6 @@
 // Letters as lines: one cutter and one writer for all kinds.
 ghost use Rattle.std.specs.Prelude.{◌≡◌, ◌*◌, ◌≤◌, true, ◌++◌, length, drop, is_ok};
-ghost use Rattle.std.specs.List.{AllByRecursion as All};
+ghost use Rattle.std.specs.List.{AllByRecursion};
 ghost use Rattle.hexadecimal.specs.Hex.{Hex};
 ghost use Rattle.letters.specs.Layout.{Fits, line_of, size_at};
 ghost use Rattle.letters.specs.Reading.{Begins, Cut, OnlyLine, Read, ReadsBack, Sole, Written, column_of};
@@ -24,7 +24,7 @@ pub(crate) enum Fault {
 
 // Cuts a line of the kind's code and length.
 fn cut_fields<K: LetterKind>(line: &[u8]) -> Letter
-    requires hex { All Hex line.now }
+    requires hex { AllByRecursion Hex line.now }
     requires begins { Begins line.now code }
     requires long { length line.now ≡ 2 * size_at code }
     ensures line { line.now ≡ line_of result }
@@ -40,7 +40,7 @@ fn cut_fields<K: LetterKind>(line: &[u8]) -> Letter
 // Cuts a line, which begins with the kind's code, into a letter of that kind. `BYTES` is the kind's
 // length: generic code knows of a bound's constant only that it is a number, so it is handed in.
 fn cut<K: LetterKind, const BYTES: usize>(line: &[u8]) -> Result<Letter, Fault>
-    requires hex { All Hex line.now }
+    requires hex { AllByRecursion Hex line.now }
     requires begins { Begins line.now code }
     requires bytes { BYTES ≡ size_at code }
     ensures { Cut line.now result }
@@ -53,7 +53,7 @@ fn cut<K: LetterKind, const BYTES: usize>(line: &[u8]) -> Result<Letter, Fault>
 
 // Cuts a line that begins with this code.
 fn cut_coded(code: u8, line: &[u8]) -> Result<Letter, Fault>
-    requires hex { All Hex line.now }
+    requires hex { AllByRecursion Hex line.now }
     requires begins { Begins line.now code }
     requires some { 2 ≤ length line.now }
     ensures { Cut line.now result }
@@ -71,7 +71,7 @@ fn cut_coded(code: u8, line: &[u8]) -> Result<Letter, Fault>
 
 // Cuts a line of hexadecimal.
 fn cut_line(line: &[u8]) -> Result<Letter, Fault>
-    requires { All Hex line.now }
+    requires { AllByRecursion Hex line.now }
     ensures { Cut line.now result }
 {
     if line.len() < 2 {

@@ -14,10 +14,10 @@ returns-in-Some c = record {
 }
 
 pub cut-line-requires : goal.cut-line-requires
-cut-line-requires c = sound_hex _ c.in-default.ensures
+cut-line-requires c = sound_hex _ c.in_default.ensures
 
 pub fault-column-requires : goal.fault-column-requires
-fault-column-requires c = sound_short _ c.in-default.ensures
+fault-column-requires c = sound_short _ c.in_default.ensures
 
 pub returns-in-Ok : goal.returns-in-Ok
 returns-in-Ok c = record {
@@ -29,8 +29,8 @@ returns-in-Ok c = record {
 
 pub returns-in-Err : goal.returns-in-Err
 returns-in-Err c = record {
-  read = (c.in-default.ensures, (c.in-Err.fault, c.in-Err.ensures, c.fault-column.ensures));
-  sole = read_sole _ (Err _) (c.in-default.ensures, (c.in-Err.fault, c.in-Err.ensures, c.fault-column.ensures));
+  read = (c.in_default.ensures, (c.in-Err.fault, c.in-Err.ensures, c.fault-column.ensures));
+  sole = read_sole _ (Err _) (c.in_default.ensures, (c.in-Err.fault, c.in-Err.ensures, c.fault-column.ensures));
   only = λ l e. absurd (err_not_ok _ l e);
   back = λ l fit e. absurd (err_not_ok _ l (cut_back _ _ c.in-Err.ensures l fit e));
 }
