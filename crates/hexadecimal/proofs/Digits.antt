@@ -1,7 +1,7 @@
 -- Numbers in a fixed count of hexadecimal characters. Assumes nothing.
 use Rattle.std.proofs.Common.{◌≡◌, ℕ, zero, suc, ◌+◌, ◌*◌, ◌/◌, ◌%◌, ◌^◌, ◌<◌, ◌≤◌, List, [], ◌∷◌, ◌++◌, length, take, drop, set, sym, refl, ap, ◌∙◌, append_assoc, lt_of_lt_of_le, pow-suc, add-one, arith, length-append}
 use native.Mathlib.Nat.{pow-le-pow_right}
-use Rattle.std.specs.List.{AllByRecursion as All}
+use Rattle.std.specs.List.{AllByRecursion}
 use Rattle.std.proofs.ByRecursion.{All-append}
 use Rattle.std.proofs.lemmas.List.{drop-set, take_at, drop_at, same_from_push}
 use Rattle.std.proofs.lemmas.Bool.Decides.{nat_tests}
@@ -57,7 +57,7 @@ char_hex : (d : ℕ) → d < 16 → Hex (char_of d)
 char_hex d h = grind (arith, nat_tests)
 
 -- digits are hexadecimal
-pub digits_hex : (k n : ℕ) → All Hex (digits k n)
+pub digits_hex : (k n : ℕ) → AllByRecursion Hex (digits k n)
 unfolding digits
 digits_hex zero n = tt
 digits_hex (suc k) n = All-append Hex (digits k (n / 16)) (char_of (n % 16) ∷ []) (digits_hex k (n / 16)) (char_hex (n % 16) (omega arith), tt)

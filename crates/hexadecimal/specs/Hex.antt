@@ -2,7 +2,7 @@
 -- A reader must believe: `Hex` names the right characters, `char_of` the right one for each value,
 -- and `digits` puts the highest digit first.
 use Rattle.std.specs.Prelude.{◌≡◌, ℕ, zero, suc, ◌+◌, ◌/◌, ◌%◌, ◌^◌, ◌<◌, ◌≤◌, cond, ◌⊎◌, List, [], ◌∷◌, ◌++◌, length, Some, None, Option, nat_lt}
-use Rattle.std.specs.List.{AllByRecursion as All}
+use Rattle.std.specs.List.{AllByRecursion}
 
 -- c lies from lo to hi
 abbrev pub In : ℕ → ℕ → ℕ → Type 0
@@ -30,5 +30,5 @@ Worth c (Some d) = Hex c × (d < 16) × (c ≡ char_of d)
 -- what a text is as a number: the one whose digits it is, and nothing where it has more than sixteen
 -- characters or one that is not hexadecimal
 abbrev pub AsNumber : List ℕ → Option ℕ → Type 0
-AsNumber text None = (16 < length text) ⊎ (All Hex text → ⊥)
+AsNumber text None = (16 < length text) ⊎ (AllByRecursion Hex text → ⊥)
 AsNumber text (Some n) = (n < 16 ^ length text) × (text ≡ digits (length text) n)

@@ -1,6 +1,6 @@
 -- The text of frames: its length, its characters, and how it is cut and written. Assumes nothing.
 use Rattle.std.proofs.Common.{◌≡◌, ℕ, ◌+◌, ◌*◌, ◌≤◌, List, [], ◌∷◌, ◌++◌, length, take, drop, sym, refl, ap, ◌∙◌, append_assoc, append-nil, arith, length-append, length-drop, take-append-drop}
-use Rattle.std.specs.List.{AllByRecursion as All}
+use Rattle.std.specs.List.{AllByRecursion}
 use Rattle.std.proofs.ByRecursion.{All-append}
 use Rattle.std.proofs.lemmas.List.{take_at, nil_from_length}
 use Rattle.std.proofs.lemmas.Bool.Decides.{nat_tests}
@@ -57,12 +57,12 @@ wrote_more {ps} {qs} {i} {j} {k} {x} {y} {z} t u = record {
   back = λ m h. u.back m h ∙ t.back m (omega (arith, u.moved));
 }
 
-text_hex : (ps : List Part) → All Hex (text ps)
+text_hex : (ps : List Part) → AllByRecursion Hex (text ps)
 text_hex [] = tt
 text_hex (p ∷ ps) = All-append Hex (digits (2 * p.0) p.1) (text ps) (digits_hex (2 * p.0) p.1) (text_hex ps)
 
 -- a letter's line is hexadecimal
-pub line_hex : (l : Letter) → All Hex (line_of l)
+pub line_hex : (l : Letter) → AllByRecursion Hex (line_of l)
 line_hex l = text_hex (frame_of l)
 
 pub codes : (b : Body) → (17 ≤ code_of b) × (code_of b ≤ 22)

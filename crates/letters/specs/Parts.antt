@@ -2,7 +2,7 @@
 -- has two hexadecimal digits to the byte.
 -- A reader must believe: `text` and `Fit`. The records say what a reader and a writer of parts do.
 use Rattle.std.specs.Prelude.{◌≡◌, ℕ, ◌+◌, ◌*◌, ◌^◌, ◌<◌, ◌≤◌, List, [], ◌∷◌, ◌++◌, length, take, drop}
-use Rattle.std.specs.List.{AllByRecursion as All}
+use Rattle.std.specs.List.{AllByRecursion}
 use Rattle.hexadecimal.specs.Hex.{Hex, digits}
 
 -- how many bytes, and the number
@@ -43,14 +43,14 @@ Fit (p ∷ ps) = (p.1 < 16 ^ (2 * p.0)) × Fit ps
 
 -- a text of hexadecimal with at least so many characters
 pub record Has (width : ℕ) (text : List ℕ) : Type 0 where
-  pub hex : All Hex text
+  pub hex : AllByRecursion Hex text
   pub some : width ≤ length text
 
 -- parts were taken off the front of a text
 pub record Took (ps : List Part) (entry exit : List ℕ) : Type 0 where
   pub text : entry ≡ before ps exit
   pub left : length exit + 2 * bytes ps ≡ length entry
-  pub hex : All Hex exit
+  pub hex : AllByRecursion Hex exit
   pub fits : Fit ps
 
 -- parts were written into a buffer at a place, and nothing past them was touched

@@ -1,6 +1,6 @@
 // The fields of a frame, read one after the other.
 ghost use Rattle.std.specs.Prelude.{◌≡◌, ◌+◌, ◌^◌, ◌<◌, ◌≤◌, [], ◌∷◌, ◌++◌, length};
-ghost use Rattle.std.specs.List.{AllByRecursion as All};
+ghost use Rattle.std.specs.List.{AllByRecursion};
 ghost use Rattle.hexadecimal.specs.Hex.{Hex, digits};
 ghost use Rattle.letters.specs.Parts.{Has, Took, byte, long, short};
 
@@ -20,7 +20,7 @@ impl Fields<'_> {
         ensures bound { result < 16 ^ width }
         ensures text { self.old.rest.now ≡ digits width result ++ self.new.rest.now }
         ensures left { length self.new.rest.now + width ≡ length self.old.rest.now }
-        ensures hex { All Hex self.new.rest.now }
+        ensures hex { AllByRecursion Hex self.new.rest.now }
     {
         let (field, rest) = self.rest.split_at(width);
         let Some(number) = hexadecimal::number(field) else {

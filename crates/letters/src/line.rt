@@ -1,6 +1,6 @@
 // Letters as lines: one cutter and one writer for all kinds.
 ghost use Rattle.std.specs.Prelude.{◌≡◌, ◌*◌, ◌≤◌, true, ◌++◌, length, drop, is_ok};
-ghost use Rattle.std.specs.List.{AllByRecursion as All};
+ghost use Rattle.std.specs.List.{AllByRecursion};
 ghost use Rattle.hexadecimal.specs.Hex.{Hex};
 ghost use Rattle.letters.specs.Layout.{Fits, line_of, size_at};
 ghost use Rattle.letters.specs.Reading.{Begins, Cut, OnlyLine, Read, ReadsBack, Sole, Written, column_of};
@@ -24,9 +24,9 @@ pub(crate) enum Fault {
 
 // Cuts a line of the kind's code and length.
 fn cut_fields<K: LetterKind>(line: &[u8]) -> Letter
-    requires hex { All Hex line.now }
-    requires begins { Begins line.now code }
-    requires long { length line.now ≡ 2 * size_at code }
+    requires hex { AllByRecursion Hex line.now }
+    requires begins { Begins line.now K.code }
+    requires long { length line.now ≡ 2 * size_at K.code }
     ensures line { line.now ≡ line_of result }
     ensures fits { Fits result }
 {
@@ -40,9 +40,9 @@ fn cut_fields<K: LetterKind>(line: &[u8]) -> Letter
 // Cuts a line, which begins with the kind's code, into a letter of that kind. `BYTES` is the kind's
 // length: generic code knows of a bound's constant only that it is a number, so it is handed in.
 fn cut<K: LetterKind, const BYTES: usize>(line: &[u8]) -> Result<Letter, Fault>
-    requires hex { All Hex line.now }
-    requires begins { Begins line.now code }
-    requires bytes { BYTES ≡ size_at code }
+    requires hex { AllByRecursion Hex line.now }
+    requires begins { Begins line.now K.code }
+    requires bytes { BYTES ≡ size_at K.code }
     ensures { Cut line.now result }
 {
     if line.len() != 2 * BYTES {
@@ -53,7 +53,7 @@ fn cut<K: LetterKind, const BYTES: usize>(line: &[u8]) -> Result<Letter, Fault>
 
 // Cuts a line that begins with this code.
 fn cut_coded(code: u8, line: &[u8]) -> Result<Letter, Fault>
-    requires hex { All Hex line.now }
+    requires hex { AllByRecursion Hex line.now }
     requires begins { Begins line.now code }
     requires some { 2 ≤ length line.now }
     ensures { Cut line.now result }
@@ -71,7 +71,7 @@ fn cut_coded(code: u8, line: &[u8]) -> Result<Letter, Fault>
 
 // Cuts a line of hexadecimal.
 fn cut_line(line: &[u8]) -> Result<Letter, Fault>
-    requires { All Hex line.now }
+    requires { AllByRecursion Hex line.now }
     ensures { Cut line.now result }
 {
     if line.len() < 2 {
@@ -94,10 +94,10 @@ fn fault_column(fault: Fault, line: &[u8]) -> u16
 
 // How many characters the line of a letter of a kind has.
 fn line_length<K: LetterKind, const BYTES: usize>(letter: &Letter, kind: &K) -> usize
-    requires kind { letter.now.body ≡ means kind.now }
-    requires bytes { BYTES ≡ size_at code }
+    requires kind { letter.now.body ≡ K.means kind.now }
+    requires bytes { BYTES ≡ size_at K.code }
     ensures line { result ≡ length (line_of letter.now) }
-    ensures size { result ≡ 2 * size_at code }
+    ensures size { result ≡ 2 * size_at K.code }
     ensures few { result ≤ 104 }
 {
     2 * BYTES
@@ -105,9 +105,9 @@ fn line_length<K: LetterKind, const BYTES: usize>(letter: &Letter, kind: &K) -> 
 
 // Writes a letter of a kind at the front of a buffer that has room for it.
 fn put_kind<K: LetterKind>(letter: &Letter, kind: &K, out: &mut [u8])
-    requires kind { letter.now.body ≡ means kind.now }
-    requires room { 2 * size_at code ≤ length out.old }
-    ensures { out.new ≡ line_of letter.now ++ drop (2 * size_at code) out.old }
+    requires kind { letter.now.body ≡ K.means kind.now }
+    requires room { 2 * size_at K.code ≤ length out.old }
+    ensures { out.new ≡ line_of letter.now ++ drop (2 * size_at K.code) out.old }
 {
     let mut pen = Pen { out, at: 0 };
     pen.byte(letter.body.code());
@@ -122,8 +122,8 @@ fn write_kind<K: LetterKind, const BYTES: usize>(
     kind: &K,
     out: &mut [u8],
 ) -> Result<usize, Refusal>
-    requires kind { letter.now.body ≡ means kind.now }
-    requires bytes { BYTES ≡ size_at code }
+    requires kind { letter.now.body ≡ K.means kind.now }
+    requires bytes { BYTES ≡ size_at K.code }
     ensures written { Written (line_of letter.now) out.old out.new result }
     ensures room { 104 ≤ length out.old → is_ok result ≡ true }
 {

@@ -1,6 +1,6 @@
 -- A line is judged by its first 512 characters and by whether it has more. Assumes nothing.
 use Rattle.std.proofs.Common.{◌≡◌, ℕ, ◌+◌, ◌-◌, ◌%◌, ◌<◌, ◌≤◌, min, Bool, true, false, ◌⊎◌, List, length, get_or, take, Some, None, Option, sym, refl, ap, ◌∙◌, subst, inl, inr, ⊎_elim, arith, length-take, MatchOption}
-use Rattle.std.specs.List.{AllByRecursion as All}
+use Rattle.std.specs.List.{AllByRecursion}
 use Rattle.std.proofs.ByRecursion.{All-from_get_or}
 use Rattle.std.proofs.lemmas.List.{get_or-take, take_all}
 use Rattle.std.proofs.lemmas.Bool.{cases_lt, ltb-true, ltb-false, lt-ltb, le-ltb}
@@ -87,7 +87,7 @@ hex_or c =
     (cases_lt c 48)
 
 -- a sound line is hexadecimal
-pub sound_hex : (line : List ℕ) → Sound line → All Hex line
+pub sound_hex : (line : List ℕ) → Sound line → AllByRecursion Hex line
 sound_hex line sound =
     All-from_get_or Hex line 0
     (λ i h. ⊎_elim (λ good. good) (λ bad. absurd (sound _ (inl (i, refl, h, bad)))) (hex_or (get_or line i 0)))

@@ -1,6 +1,6 @@
 -- An input that comes in byte by byte. Assumes nothing.
-use Rattle.std.proofs.Common.{◌≡◌, ℕ, zero, suc, ◌+◌, ◌<◌, Bool, true, false, ◌⊎◌, List, [], ◌∷◌, ◌++◌, length, sym, refl, ap, ◌∙◌, subst, subst₂, inl, inr, ⊎_elim, append_assoc, append-nil, add-one, arith}
-use Rattle.std.specs.List.{ContainsAt as Has, AllByRecursion as All}
+use Rattle.std.proofs.Common.{◌≡◌, ℕ, zero, suc, ◌+◌, ◌<◌, Bool, true, false, List, [], ◌∷◌, ◌++◌, length, sym, refl, ap, ◌∙◌, subst, subst₂, inl, inr, ⊎_elim, append_assoc, append-nil, add-one, arith}
+use Rattle.std.specs.List.{ContainsAt, AllByRecursion}
 use Rattle.std.proofs.ByRecursion.{all-has, has_append_left, has_append_right, has_push, has_push_cases}
 use Rattle.std.proofs.lemmas.List.{length_push}
 use Rattle.std.proofs.lemmas.Bool.{ne_eqb, cond-false, cases_lt, both_ways}
@@ -13,11 +13,11 @@ use Rattle.lines.proofs.Ends.{runs}
 
 -- bytes among which no 0a is
 abbrev Open : List ℕ → Type 0
-Open = All (λ b. b ≡ 10 → ⊥)
+Open = AllByRecursion (λ b. b ≡ 10 → ⊥)
 
 -- the first k lines are whole
 abbrev Whole : ℕ → List ℕ → Type 0
-Whole k input = (j : ℕ) → j < k → Has (rest_after j input) 10
+Whole k input = (j : ℕ) → j < k → ContainsAt (rest_after j input) 10
 
 -- an open line goes on with what comes
 open_more : (xs ys : List ℕ) → Open xs → (first_line (xs ++ ys) ≡ xs ++ first_line ys) × (after_line (xs ++ ys) ≡ after_line ys)
@@ -28,19 +28,19 @@ open_more (b ∷ bs) ys n =
     (cond-false _ _ _ e ∙ ap (λ l. b ∷ l) r.0, cond-false _ _ _ e ∙ r.1)
 
 -- a whole line stays as it is, and what comes goes to the rest
-whole_more : (xs ys : List ℕ) → Has xs 10 → (first_line (xs ++ ys) ≡ first_line xs) × (after_line (xs ++ ys) ≡ after_line xs ++ ys)
+whole_more : (xs ys : List ℕ) → ContainsAt xs 10 → (first_line (xs ++ ys) ≡ first_line xs) × (after_line (xs ++ ys) ≡ after_line xs ++ ys)
 whole_more xs ys h =
     let r = runs xs in
-    let cut : xs ≡ first_line xs ++ 10 ∷ after_line xs = ⊎_elim (λ e. e) (λ w. absurd (all-has (λ b. b ≡ 10 → ⊥) (first_line xs) 10 r.0 (subst (λ l. Has l 10) w.0 h) refl)) r.1 in
+    let cut : xs ≡ first_line xs ++ 10 ∷ after_line xs = ⊎_elim (λ e. e) (λ w. absurd (all-has (λ b. b ≡ 10 → ⊥) (first_line xs) 10 r.0 (subst (λ l. ContainsAt l 10) w.0 h) refl)) r.1 in
     let e : xs ++ ys ≡ first_line xs ++ (10 ∷ after_line xs ++ ys) = ap (λ l. l ++ ys) cut ∙ append_assoc (first_line xs) (10 ∷ after_line xs) ys in
     let m = open_more (first_line xs) (10 ∷ after_line xs ++ ys) r.0 in
     (ap first_line e ∙ m.0 ∙ append-nil (first_line xs), ap after_line e ∙ m.1)
 
-open_from : (xs : List ℕ) → (Has xs 10 → ⊥) → Open xs
+open_from : (xs : List ℕ) → (ContainsAt xs 10 → ⊥) → Open xs
 open_from xs n =
     let r = runs xs in
     ⊎_elim
-    (λ e. absurd (n (subst (λ l. Has l 10) (sym e) (has_append_right (first_line xs) (10 ∷ after_line xs) 10 (0, omega arith, λ d. refl)))))
+    (λ e. absurd (n (subst (λ l. ContainsAt l 10) (sym e) (has_append_right (first_line xs) (10 ∷ after_line xs) 10 (0, omega arith, λ d. refl)))))
     (λ w. subst Open (sym w.0) r.0)
     r.1
 
@@ -53,8 +53,8 @@ rest_more : (k : ℕ) (input ys : List ℕ) → Whole k input → rest_after k (
 rest_more zero input ys w = refl
 rest_more (suc k) input ys w = ap after_line (rest_more k input ys (λ j h. w j (omega arith))) ∙ (whole_more (rest_after k input) ys (w k (omega arith))).1
 
-has_more : (k : ℕ) (input ys : List ℕ) → Whole k input → Has (rest_after k input) 10 → Has (rest_after k (input ++ ys)) 10
-has_more k input ys w h = subst (λ l. Has l 10) (sym (rest_more k input ys w)) (has_append_left (rest_after k input) ys 10 h)
+has_more : (k : ℕ) (input ys : List ℕ) → Whole k input → ContainsAt (rest_after k input) 10 → ContainsAt (rest_after k (input ++ ys)) 10
+has_more k input ys w h = subst (λ l. ContainsAt l 10) (sym (rest_more k input ys w)) (has_append_left (rest_after k input) ys 10 h)
 
 whole_still : (k : ℕ) (input ys : List ℕ) → Whole k input → Whole k (input ++ ys)
 whole_still k input ys w j h = has_more j input ys (λ i g. w i (omega arith)) (w j h)
@@ -84,12 +84,12 @@ module _ (input : List ℕ) (k byte : ℕ) (r : Ready input k) where
   inside : (byte ≡ 10 → ⊥) → Stands (input ++ byte ∷ []) k true
   inside n = (
     omega (arith, ap length rest, length_push (rest_after k input) byte),
-    λ h. ⊎_elim (λ g. all-has (λ b. b ≡ 10 → ⊥) (rest_after k input) 10 r.rest g refl) n (has_push_cases (rest_after k input) byte 10 (subst (λ l. Has l 10) rest h)),
+    λ h. ⊎_elim (λ g. all-has (λ b. b ≡ 10 → ⊥) (rest_after k input) 10 r.rest g refl) n (has_push_cases (rest_after k input) byte 10 (subst (λ l. ContainsAt l 10) rest h)),
   )
 
   ended : byte ≡ 10 → Stands (input ++ byte ∷ []) k false
   ended e = (
-    subst₂ Has (sym rest) e (has_push (rest_after k input) byte),
+    subst₂ ContainsAt (sym rest) e (has_push (rest_after k input) byte),
     inl (ap after_line rest ∙ (open_more (rest_after k input) (byte ∷ []) r.rest).1 ∙ ap (λ b. after_line (b ∷ [])) e),
   )
 
@@ -112,7 +112,7 @@ closed_rest : (input places : List ℕ) (count number : ℕ) (opened : Bool) →
 closed_rest input places count zero opened e h c = (λ j g. absurd (omega arith), c.0)
 closed_rest input places count (suc k) opened e h c =
     let s : Stands input k false = subst (Stands input k) e c.stands in (
-      λ j g. ⊎_elim (c.whole j) (λ l. let same : k ≡ j = omega arith in subst (λ i. Has (rest_after i input) 10) same s.0) (cases_lt j k),
+      λ j g. ⊎_elim (c.whole j) (λ l. let same : k ≡ j = omega arith in subst (λ i. ContainsAt (rest_after i input) 10) same s.0) (cases_lt j k),
       ⊎_elim (λ x. x) (λ l. absurd (omega arith)) s.1,
     )
 

@@ -1,7 +1,7 @@
 -- An input that comes in byte by byte: what is known of the line that came in last, and what a byte did.
 -- A reader must believe: `Last` and the two cases of `CameAs`, and the three cases of `Did`.
 use Rattle.std.specs.Prelude.{◌≡◌, ℕ, zero, suc, ◌+◌, ◌<◌, Bool, true, false, ◌⊎◌, List, [], length, ◌≢◌}
-use Rattle.std.specs.List.{ContainsAt as Has}
+use Rattle.std.specs.List.{ContainsAt}
 use Rattle.lines.specs.Buffer.{Kept}
 use Rattle.lines.specs.Lines.{rest_after, line_after}
 use Rattle.reader.specs.declared.intake.Intake.{Intake}
@@ -11,13 +11,13 @@ use Rattle.reader.specs.declared.intake.Progress.TheVariants.{Inside, Ended, Pas
 -- where the line that has k lines before it stands: it has begun and no 0a (10) has come, or its 0a
 -- has come, and then nothing more has, unless it is line 65,535
 abbrev pub Stands : List ℕ → ℕ → Bool → Type 0
-Stands input k true = (0 < length (rest_after k input)) × (Has (rest_after k input) 10 → ⊥)
-Stands input k false = Has (rest_after k input) 10 × ((rest_after (suc k) input ≡ []) ⊎ (suc k ≡ 65535))
+Stands input k true = (0 < length (rest_after k input)) × (ContainsAt (rest_after k input) 10 → ⊥)
+Stands input k false = ContainsAt (rest_after k input) 10 × ((rest_after (suc k) input ≡ []) ⊎ (suc k ≡ 65535))
 
 -- the line that has k lines before it came in last, and the buffer holds it
 pub record Last (input places : List ℕ) (count k : ℕ) (opened : Bool) : Type 0 where
   pub few : k < 65535
-  pub whole : (j : ℕ) → j < k → Has (rest_after j input) 10
+  pub whole : (j : ℕ) → j < k → ContainsAt (rest_after j input) 10
   pub held : Kept places count (line_after k input)
   pub stands : Stands input k opened
 

@@ -9,14 +9,14 @@ pub loop-byte-init : goal.loop-byte-init
 unfolding digits
 loop-byte-init c = (omega arith, refl)
 
-pub returns-in-default : goal.returns-in-default
-returns-in-default c = inr (λ all. c.in-default.ensures (All-get_or Hex c.args.text.now c.loop-byte.byte-index 0 c.loop-byte-test.true all))
+pub returns-in_default : goal.returns-in_default
+returns-in_default c = inr (λ all. c.in_default.ensures (All-get_or Hex c.args.text.now c.loop-byte.byte-index 0 c.loop-byte-test.true all))
 
-pub overflow-mul-n : goal.overflow-mul-n
-overflow-mul-n c = let b = below_all _ _ c.loop-byte.invariant.0 (omega arith) in omega arith
+pub overflow_mul-n : goal.overflow_mul-n
+overflow_mul-n c = let b = below_all _ _ c.loop-byte.invariant.0 (omega arith) in omega arith
 
-pub overflow-add-n : goal.overflow-add-n
-overflow-add-n c = let b = below_all _ _ c.loop-byte.invariant.0 (omega arith) in omega (arith, c.in-Some.ensures.1)
+pub overflow_add-n : goal.overflow_add-n
+overflow_add-n c = let b = below_all _ _ c.loop-byte.invariant.0 (omega arith) in omega (arith, c.in-Some.ensures.1)
 
 pub loop-byte-preserved : goal.loop-byte-preserved
 loop-byte-preserved c =

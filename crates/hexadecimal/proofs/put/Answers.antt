@@ -13,7 +13,7 @@ pub loop-place-preserved : goal.loop-place-preserved
 loop-place-preserved c =
     let k = c.loop-place.place - 1 in
     let is : suc k ≡ c.loop-place.place = omega arith in
-    ap (λ d. digits k (c.loop-place.rest / 16) ++ drop k (set c.loop-place.out k d)) c.last-digit.ensures
+    ap (λ d. digits k (c.loop-place.rest / 16) ++ drop k (set c.loop-place.out k d)) c.last_digit.ensures
     ∙ put_more c.loop-place.out k c.loop-place.rest (omega arith)
     ∙ ap (λ m. digits m c.loop-place.rest ++ drop m c.loop-place.out) is
     ∙ c.loop-place.invariant

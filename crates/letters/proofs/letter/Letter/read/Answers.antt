@@ -13,11 +13,11 @@ returns-in-Some c = record {
   back = λ l fit e. absurd (line_sound l c.in-Some.column (subst (λ t. Applies t c.in-Some.column) e c.in-Some.ensures.0));
 }
 
-pub cut-line-requires : goal.cut-line-requires
-cut-line-requires c = sound_hex _ c.in-default.ensures
+pub cut_line-requires : goal.cut_line-requires
+cut_line-requires c = sound_hex _ c.in_default.ensures
 
-pub fault-column-requires : goal.fault-column-requires
-fault-column-requires c = sound_short _ c.in-default.ensures
+pub fault_column-requires : goal.fault_column-requires
+fault_column-requires c = sound_short _ c.in_default.ensures
 
 pub returns-in-Ok : goal.returns-in-Ok
 returns-in-Ok c = record {
@@ -29,8 +29,8 @@ returns-in-Ok c = record {
 
 pub returns-in-Err : goal.returns-in-Err
 returns-in-Err c = record {
-  read = (c.in-default.ensures, (c.in-Err.fault, c.in-Err.ensures, c.fault-column.ensures));
-  sole = read_sole _ (Err _) (c.in-default.ensures, (c.in-Err.fault, c.in-Err.ensures, c.fault-column.ensures));
+  read = (c.in_default.ensures, (c.in-Err.fault, c.in-Err.ensures, c.fault_column.ensures));
+  sole = read_sole _ (Err _) (c.in_default.ensures, (c.in-Err.fault, c.in-Err.ensures, c.fault_column.ensures));
   only = λ l e. absurd (err_not_ok _ l e);
   back = λ l fit e. absurd (err_not_ok _ l (cut_back _ _ c.in-Err.ensures l fit e));
 }
