@@ -2,7 +2,7 @@
 -- letters that it writes, in their order.
 -- A reader must believe: one effect for each kind, beside docs/PROTOCOL.md. P is the post as it was,
 -- `me` its number, `from` the letter's sender.
-use Rattle.std.specs.Prelude.{ℕ, ◌+◌, Bool, true, false, cond, not, ◌&&◌, ◌||◌, List, [], ◌∷◌, ◌++◌, Some, None, Option, ◌==◌, nat_lt}
+use Rattle.std.specs.Prelude.{ℕ, ◌+◌, Bool, true, false, cond, ◌&&◌, List, [], ◌∷◌, Some, None, Option, ◌==◌, nat_lt}
 use Rattle.masks.specs.Masks.{naming, tally}
 use Rattle.council.specs.declared.council.Council.{Council}
 use Rattle.council.specs.declared.statement.Signature.{Signature}
@@ -19,7 +19,7 @@ use Rattle.letters.specs.declared.letter.ViewChange.{ViewChange as ChangeBody}
 use Rattle.posts.specs.declared.post.Broadcast.{Broadcast}
 use Rattle.posts.specs.declared.post.Certified.{Certified}
 use Rattle.posts.specs.declared.post.Phase.{Phase}
-use Rattle.posts.specs.declared.post.Phase.TheVariants.{Idle, Broadcasting, Exchanging, Ended}
+use Rattle.posts.specs.declared.post.Phase.TheVariants.{Broadcasting, Exchanging, Ended}
 use Rattle.posts.specs.declared.post.Post.{Post}
 use Rattle.posts.specs.declared.post.Skips.{Skips}
 use Rattle.posts.specs.declared.post.Standing.{Standing}

@@ -2,7 +2,7 @@
 -- brings, in ascending order; the first that holds counts.
 -- A reader must believe: the tables, beside docs/PROTOCOL.md. P is the post as it was, `me` its number,
 -- `from` the letter's sender, `held` the signatures held, `lead` the lead drawn for each view.
-use Rattle.std.specs.Prelude.{ℕ, ◌-◌, Bool, true, false, cond, not, ◌&&◌, ◌||◌, List, [], ◌∷◌, ◌==◌, nat_le, nat_lt}
+use Rattle.std.specs.Prelude.{ℕ, ◌-◌, Bool, true, false, cond, not, ◌&&◌, ◌||◌, [], ◌∷◌, ◌==◌, nat_le, nat_lt}
 use Rattle.refusals.specs.Tables.{Tests}
 use Rattle.refusals.specs.declared.Refusal.TheVariants.{PostNotReady, Malformed, OtherView, KindNotTaken, NotOwnBroadcast, Repeated, EditionNotAdmitted, KeyViewOutOfRange, NotCertified}
 use Rattle.masks.specs.Masks.{named}

@@ -1,14 +1,12 @@
 -- What a post keeps: an idle post, and how the tables are read and changed.
 -- A reader must believe: `signed_for` and `holdings_of`, how the tables are read; `storing`, which
 -- holding the SEND of a step brings.
-use Rattle.std.specs.Prelude.{ℕ, ◌-◌, Bool, true, false, cond, List, [], ◌∷◌, replicate, None, ◌==◌, slice_index, slice_index_or, slice_set}
+use Rattle.std.specs.Prelude.{ℕ, ◌-◌, Bool, false, cond, replicate, None, ◌==◌, slice_index, slice_index_or, slice_set}
 use Rattle.masks.specs.Masks.{named, naming}
 use Rattle.letters.specs.declared.letter.Holding.{Holding}
 use Rattle.posts.specs.declared.post.Broadcast.{Broadcast}
-use Rattle.posts.specs.declared.post.Certified.{Certified}
 use Rattle.posts.specs.declared.tables.Holdings.{Holdings}
-use Rattle.posts.specs.declared.post.Phase.{Phase}
-use Rattle.posts.specs.declared.post.Phase.TheVariants.{Idle, Broadcasting, Exchanging, Ended}
+use Rattle.posts.specs.declared.post.Phase.TheVariants.{Idle}
 use Rattle.posts.specs.declared.post.Post.{Post}
 use Rattle.posts.specs.declared.post.Skips.{Skips}
 use Rattle.posts.specs.declared.post.Standing.{Standing}

@@ -18,10 +18,10 @@ pub(crate) fn publish<R: Record>(
     book: &mut R,
     roll: &mut Roll,
 ) -> Result<(), Refusal>
-    ensures answer { result ≡ first_refusal (limits seat.me (papers held number capacity roll.old book.old) (Some statement) (letter ∷ [])) }
-    ensures papers { papers held number capacity roll.new book.new
-        ≡ after result (papers held number capacity roll.old book.old)
-        (filed seat.me (papers held number capacity roll.old book.old) (Some statement) (letter ∷ [])) }
+    ensures answer { result ≡ first_refusal (limits seat.me (papers R.held R.number R.capacity roll.old book.old) (Some statement) (letter ∷ [])) }
+    ensures papers { papers R.held R.number R.capacity roll.new book.new
+        ≡ after result (papers R.held R.number R.capacity roll.old book.old)
+        (filed seat.me (papers R.held R.number R.capacity roll.old book.old) (Some statement) (letter ∷ [])) }
 {
     if roll.room() == 0 {
         return Err(Refusal::RollFull);

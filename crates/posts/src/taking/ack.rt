@@ -24,7 +24,7 @@ impl Post {
         ack: Ack,
         book: &R,
     ) -> Result<(), Refusal>
-        ensures { result ≡ first_refusal (ack_tests (held book.now) seat.me self.now sender ack) }
+        ensures { result ≡ first_refusal (ack_tests (R.held book.now) seat.me self.now sender ack) }
     {
         if ack.lead != seat.me
             || ack.step != self.broadcast.step
@@ -83,9 +83,9 @@ impl Post {
         roll: &mut Roll,
     ) -> Result<(u8, u16), Refusal>
         requires { ack.step ≤ 4 }
-        ensures { Took seat.me (ack_tests (held book.now) seat.me self.old sender ack) (on_ack seat.council seat.me self.old sender)
-            self.old (papers held number capacity roll.old book.now) result
-            self.new (papers held number capacity roll.new book.now) }
+        ensures { Took seat.me (ack_tests (R.held book.now) seat.me self.old sender ack) (on_ack seat.council seat.me self.old sender)
+            self.old (papers R.held R.number R.capacity roll.old book.now) result
+            self.new (papers R.held R.number R.capacity roll.new book.now) }
     {
         self.judge_ack(seat, sender, ack, book)?;
         let acks = with_post(self.broadcast.acks, sender);

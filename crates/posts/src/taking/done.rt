@@ -26,7 +26,7 @@ impl Post {
         done: Done,
         book: &R,
     ) -> Result<(), Refusal>
-        ensures { result ≡ first_refusal (done_tests seat.council (held book.now) self.now sender done) }
+        ensures { result ≡ first_refusal (done_tests seat.council (R.held book.now) self.now sender done) }
     {
         if names_post(self.skips.done, sender) {
             return Err(Refusal::Repeated);
@@ -52,9 +52,9 @@ impl Post {
         book: &mut R,
         roll: &mut Roll,
     ) -> Result<(u8, u16), Refusal>
-        ensures { Took seat.me (done_tests seat.council (held book.old) self.old sender done) (on_done seat.council seat.me self.old sender)
-            self.old (papers held number capacity roll.old book.old) result
-            self.new (papers held number capacity roll.new book.new) }
+        ensures { Took seat.me (done_tests seat.council (R.held book.old) self.old sender done) (on_done seat.council seat.me self.old sender)
+            self.old (papers R.held R.number R.capacity roll.old book.old) result
+            self.new (papers R.held R.number R.capacity roll.new book.new) }
     {
         self.judge_done(seat, sender, done, book)?;
         let counted = with_post(self.skips.done, sender);

@@ -23,8 +23,8 @@ impl Post {
         roll: &mut Roll,
     ) -> Result<(u8, u16), Refusal>
         ensures { Took seat.me [] (enter seat.me standing view)
-            self.old (papers held number capacity roll.old book.now) result
-            self.new (papers held number capacity roll.new book.now) }
+            self.old (papers R.held R.number R.capacity roll.old book.now) result
+            self.new (papers R.held R.number R.capacity roll.new book.now) }
     {
         let send = Send {
             step: 1,

@@ -20,7 +20,7 @@ use rolls::roll::Roll;
 // Whether the key that a SEND of step 1 brings is proven: a start's, of view 0, needs no proof; any
 // other needs a certificate of step 1 of its view's drawn lead.
 fn is_key_proven<R: Record, D: Draw>(seat: Seat, send: Send, book: &R, draw: &D) -> bool
-    ensures { result ≡ key_proven seat.council (held book.now) (lead draw.now) send }
+    ensures { result ≡ key_proven seat.council (R.held book.now) (D.lead draw.now) send }
 {
     if send.key_view == 0 {
         return true;
@@ -48,7 +48,7 @@ impl Post {
         draw: &D,
     ) -> Result<(), Refusal>
         requires { (1 ≤ send.step) × (send.step ≤ 4) }
-        ensures { result ≡ first_refusal (send_tests seat.council (held book.now) (admitted check.now) (lead draw.now) self.now sender send) }
+        ensures { result ≡ first_refusal (send_tests seat.council (R.held book.now) (C.admitted check.now) (D.lead draw.now) self.now sender send) }
     {
         if self.tables.has_signed(send.step, sender) {
             return Err(Refusal::Repeated);
@@ -77,7 +77,7 @@ impl Post {
         check: &C,
         draw: &D,
     ) -> Result<(), Refusal>
-        ensures { result ≡ first_refusal (first_tests seat.council (held book.now) (admitted check.now) (lead draw.now) self.now send) }
+        ensures { result ≡ first_refusal (first_tests seat.council (R.held book.now) (C.admitted check.now) (D.lead draw.now) self.now send) }
     {
         if !check.admits(send.edition) {
             return Err(Refusal::EditionNotAdmitted);
@@ -103,9 +103,9 @@ impl Post {
         roll: &mut Roll,
     ) -> Result<(u8, u16), Refusal>
         requires { (1 ≤ send.step) × ((send.step ≤ 4) × (sender < 64)) }
-        ensures { Took seat.me (send_tests seat.council (held book.old) (admitted check.now) (lead draw.now) self.old sender send) (on_send seat.me self.old sender send)
-            self.old (papers held number capacity roll.old book.old) result
-            self.new (papers held number capacity roll.new book.new) }
+        ensures { Took seat.me (send_tests seat.council (R.held book.old) (C.admitted check.now) (D.lead draw.now) self.old sender send) (on_send seat.me self.old sender send)
+            self.old (papers R.held R.number R.capacity roll.old book.old) result
+            self.new (papers R.held R.number R.capacity roll.new book.new) }
     {
         self.judge_send(seat, sender, send, book, check, draw)?;
         let statement = Statement {

@@ -17,7 +17,7 @@ use rolls::roll::Roll;
 impl Post {
     // Whether SKIP-SHARE is sent back: its sender is counted, or did not sign to skip.
     fn judge_share<R: Record>(&self, sender: u8, book: &R) -> Result<(), Refusal>
-        ensures { result ≡ first_refusal (share_tests (held book.now) self.now sender) }
+        ensures { result ≡ first_refusal (share_tests (R.held book.now) self.now sender) }
     {
         if names_post(self.skips.shares, sender) {
             return Err(Refusal::Repeated);
@@ -40,9 +40,9 @@ impl Post {
         book: &R,
         roll: &mut Roll,
     ) -> Result<(u8, u16), Refusal>
-        ensures { Took seat.me (share_tests (held book.now) self.old sender) (on_share seat.council seat.me self.old sender)
-            self.old (papers held number capacity roll.old book.now) result
-            self.new (papers held number capacity roll.new book.now) }
+        ensures { Took seat.me (share_tests (R.held book.now) self.old sender) (on_share seat.council seat.me self.old sender)
+            self.old (papers R.held R.number R.capacity roll.old book.now) result
+            self.new (papers R.held R.number R.capacity roll.new book.now) }
     {
         self.judge_share(sender, book)?;
         let shares = with_post(self.skips.shares, sender);

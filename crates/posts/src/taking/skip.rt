@@ -43,9 +43,9 @@ impl Post {
         draw: &D,
         roll: &mut Roll,
     ) -> Result<(u8, u16), Refusal>
-        ensures { Took seat.me (skip_tests seat.council (held book.now) self.old skip) (on_skip (lead draw.now self.old.view) seat.me self.old skip)
-            self.old (papers held number capacity roll.old book.now) result
-            self.new (papers held number capacity roll.new book.now) }
+        ensures { Took seat.me (skip_tests seat.council (R.held book.now) self.old skip) (on_skip (D.lead draw.now self.old.view) seat.me self.old skip)
+            self.old (papers R.held R.number R.capacity roll.old book.now) result
+            self.new (papers R.held R.number R.capacity roll.new book.now) }
     {
         if !is_good(&seat.council, book, skip.mask, &Statement::skip(self.view)) {
             return Err(Refusal::NotCertified);
