@@ -32,7 +32,7 @@ pub struct Signature {
     pub statement: Statement,
 }
 
-// Written out, so that the contract says equality and not a relation field by field.
+// By the test of the definitions; the contract says that it decides equality.
 impl PartialEq for Statement {
     ghost eq = { same_statement };
 

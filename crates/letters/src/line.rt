@@ -38,7 +38,7 @@ fn cut_fields<K: LetterKind>(line: &[u8]) -> Letter
 }
 
 // Cuts a line, which begins with the kind's code, into a letter of that kind. `BYTES` is the kind's
-// length: generic code knows of a bound's constant only that it is a number, so it is handed in.
+// length, handed in so that the contract can name it.
 fn cut<K: LetterKind, const BYTES: usize>(line: &[u8]) -> Result<Letter, Fault>
     requires hex { AllByRecursion Hex line.now }
     requires begins { Begins line.now K.code }

@@ -84,7 +84,7 @@ impl Refusal {
     }
 }
 
-// Written out, since a derived `==` promises nothing of an enum of this size.
+// By the numbers; the contract says that it decides equality.
 impl PartialEq for Refusal {
     ghost eq = { λ x y. number_of x == number_of y };
 
