@@ -1,7 +1,7 @@
 -- The test of certificates decides the rule, and the laws of certificates. Assumes nothing.
 use Rattle.std.proofs.Common.{◌≡◌, ℕ, ◌^◌, ◌<◌, ◌≤◌, Bool, true, not, ◌&&◌, ltb, leb, Decides, refl, ap, inl, inr, arith, pow_mono}
 use Rattle.std.proofs.lemmas.Bool.{and_parts, and_from, or_cases, or_left, or_right, not-true, leb-true, le-leb, ltb-true, lt-ltb, both_ways, cases_Bool}
-use Rattle.std.proofs.lemmas.Bool.Decides.{Decides-below_and}
+use Rattle.std.proofs.lemmas.Bool.Decides.{Decides-below_and, same_from_decides}
 use Rattle.masks.specs.Masks.{Inside, count, named, tally}
 use Rattle.masks.proofs.Counting.{count_grows}
 use Rattle.masks.proofs.Naming.{below_inside, inside_below}
@@ -53,8 +53,9 @@ module _ (c : Council) (held : Signature → Bool) (mask : ℕ) (s : Statement) 
       and_from low (many && full) (lt-ltb mask (2 ^ c.n) (inside_below mask c.n fits h.inside))
       (and_from many full (le-leb c.quorum (tally mask) h.enough) ((every_means c.n (covers held mask s)).1 (λ p _. covered p (h.signed p))))
 
-  pub good_decides : mask < 2 ^ 64 → Decides (good c held mask s) (Certifies c held mask s)
-  good_decides fits = (good_certifies, certifies_good fits)
+  -- so what decides the rule for such a mask is `good`
+  pub good_is : (r : Bool) → mask < 2 ^ 64 → Decides r (Certifies c held mask s) → r ≡ good c held mask s
+  good_is r fits d = same_from_decides r (good c held mask s) d (good_certifies, certifies_good fits)
 
   -- what is named is counted below n
   pub good_enough : good c held mask s ≡ true → c.quorum ≤ count c.n (named mask)

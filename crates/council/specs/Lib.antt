@@ -1,5 +1,4 @@
 pub mod Councils
-pub mod Lists
 pub mod Statements
 pub mod Signatures
 pub mod Signing

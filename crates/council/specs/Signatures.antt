@@ -5,7 +5,7 @@ use Rattle.masks.specs.Masks.{count}
 use Rattle.council.specs.declared.council.Council.{Council}
 use Rattle.council.specs.declared.statement.Statement.{Statement}
 use Rattle.council.specs.declared.statement.Signature.{Signature}
-use Rattle.council.specs.Lists.{any}
+use Rattle.std.specs.List.{list_any}
 use Rattle.council.specs.Statements.{same_statement}
 
 -- the signature of post p on the statement s
@@ -26,7 +26,7 @@ Grows held more = (x : Signature) → held x ≡ true → more x ≡ true
 
 -- the list has the signature
 abbrev pub listed : List Signature → Signature → Bool
-listed l x = any (λ y. same y x) l
+listed l x = list_any (λ y. same y x) l
 
 -- no signature stands twice in the list
 abbrev pub distinct : List Signature → Bool

@@ -8,6 +8,7 @@ use crate::statement::{Signature, Statement};
 use masks::mask::{names_post, size, within};
 
 // Whether the mask is a good certificate of the statement (the field's word: quorum certificate).
+#[tactic(auto, using(crate::proofs::Certified::certificate_laws))]
 pub fn is_good<R: Record>(council: &Council, book: &R, mask: u64, statement: &Statement) -> bool
     ensures value { result ≡ good council.now (R.held book.now) mask statement.now }
     ensures rule { Decides result (Certifies council.now (R.held book.now) mask statement.now) }
@@ -16,28 +17,25 @@ pub fn is_good<R: Record>(council: &Council, book: &R, mask: u64, statement: &St
     certifies(council, book, mask, statement)
 }
 
-// Whether the rule of certificates holds.
+// Whether the rule of certificates holds. Apart from `is_good`, since what that promises besides
+// follows from the rule.
 fn certifies<R: Record>(council: &Council, book: &R, mask: u64, statement: &Statement) -> bool
     ensures { Decides result (Certifies council.now (R.held book.now) mask statement.now) }
 {
-    if !within(mask, council.posts()) || size(mask) < council.quorum() {
-        return false;
-    }
-    all_signed(council.posts(), book, mask, statement)
+    within(mask, council.posts())
+        && council.quorum() <= size(mask)
+        && all_signed(council.posts(), book, mask, statement)
 }
 
 // Whether each post below `n` that the mask names signed the statement.
 fn all_signed<R: Record>(n: u8, book: &R, mask: u64, statement: &Statement) -> bool
     ensures { Decides result (AllSignedBelow n (R.held book.now) mask statement.now) }
 {
-    for signer in 0..n {
+    (0..n).all(|signer| {
         let signature = Signature {
             signer,
             statement: *statement,
         };
-        if names_post(mask, signer) && !book.holds(&signature) {
-            return false;
-        }
-    }
-    true
+        !names_post(mask, signer) || book.holds(&signature)
+    })
 }

@@ -27,6 +27,13 @@ pub trait Record {
     fn count(&self) -> usize
         ensures { result ≡ number self.now };
 
+    // Whether no signature is held.
+    fn is_empty(&self) -> bool
+        ensures { Decides result ((x : Signed) → held self.now x ≡ false) }
+    {
+        self.count() == 0
+    }
+
     // Adds the signature, unless it is held already. Refused: a signer above 63, then a full record.
     fn sign(&mut self, signature: Signature) -> Result<(), Refusal>
         ensures answer { result ≡ sign_answer (held self.old) (number self.old) (capacity self.old) signature }
@@ -42,11 +49,4 @@ pub trait Record {
 
     // No more are held than can be.
     ghost within: { (s : Self) → number s ≤ capacity s };
-}
-
-// Whether a record holds no signature.
-pub fn is_empty<R: Record>(book: &R) -> bool
-    ensures { Decides result ((x : Signed) → R.held book.now x ≡ false) }
-{
-    book.count() == 0
 }

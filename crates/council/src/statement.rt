@@ -1,10 +1,7 @@
 // What posts sign.
 ghost use Rattle.std.specs.Prelude.{◌≡◌, Decides};
-ghost use Rattle.council.specs.Signatures.{same};
-ghost use Rattle.council.specs.Statements.{Shape, of_broadcast, same_statement, shaped, skipping};
-ghost use Rattle.std.specs.Cmp.Rules.{comparing};
+ghost use Rattle.council.specs.Statements.{Shape, of_broadcast, shaped, skipping};
 ghost use Rattle.std.proofs.Common.{rules};
-ghost use Rattle.std.specs.Cmp as Keys;
 
 use crate::council::Council;
 use masks::senders::Entry;
@@ -16,8 +13,9 @@ pub const LAST_VIEW: u16 = 1_000;
 pub const LAST_STEP: u8 = 4;
 
 // A statement: at this step of the lead's broadcast in the view stands this edition (the field's
-// word: the signed payload of a vote). Edition 0 means none.
-#[derive(Clone, Copy, Debug, Eq)]
+// word: the signed payload of a vote). Edition 0 means none; all numbers may be signed and kept, shape
+// or no shape, so it is no Option.
+#[derive(Clone, Copy, Debug, PartialEq, Eq)]
 pub struct Statement {
     pub view: u16,
     pub lead: u8,
@@ -26,41 +24,10 @@ pub struct Statement {
 }
 
 // A signature: a post that signed a statement (the field's word: signed vote, partial signature).
-#[derive(Clone, Copy, Debug, Eq)]
+#[derive(Clone, Copy, Debug, PartialEq, Eq)]
 pub struct Signature {
     pub signer: u8,
     pub statement: Statement,
-}
-
-// By the test of the definitions; the contract says that it decides equality.
-impl PartialEq for Statement {
-    ghost eq = { same_statement };
-
-    ghost laws = { Keys.partial_equiv_from_equiv (Prim.search (comparing, rules)) };
-
-    fn eq(&self, other: &Statement) -> bool
-        ensures value { result ≡ same_statement self.now other.now }
-        ensures same { Decides result (self.now ≡ other.now) }
-    {
-        self.view == other.view
-            && self.lead == other.lead
-            && self.step == other.step
-            && self.edition == other.edition
-    }
-}
-
-// Two signatures are one if post and statement are.
-impl PartialEq for Signature {
-    ghost eq = { same };
-
-    ghost laws = { Keys.partial_equiv_from_equiv (Prim.search (comparing, rules)) };
-
-    fn eq(&self, other: &Signature) -> bool
-        ensures value { result ≡ same self.now other.now }
-        ensures same { Decides result (self.now ≡ other.now) }
-    {
-        self.statement == other.statement && self.signer == other.signer
-    }
 }
 
 // A signature comes from its signer, and is on its statement.
@@ -83,7 +50,8 @@ impl Entry for Signature {
 }
 
 impl Statement {
-    // The skip statement of a view: its broadcasts are to end.
+    // The skip statement of a view: its broadcasts are to end. By name, since a conversion from a
+    // number would not say so.
     pub fn skip(view: u16) -> Statement
         ensures { result ≡ skipping view }
     {
@@ -100,8 +68,7 @@ impl Statement {
         ensures value { result ≡ shaped council.now.n self.now }
         ensures rule { Decides result (Shape council.now.n self.now) }
     {
-        1 <= self.view
-            && self.view <= LAST_VIEW
+        (1..=LAST_VIEW).contains(&self.view)
             && (*self == Statement::skip(self.view) || self.is_of_broadcast(council))
     }
 
@@ -109,6 +76,6 @@ impl Statement {
     fn is_of_broadcast(&self, council: &Council) -> bool
         ensures { result ≡ of_broadcast council.now.n self.now }
     {
-        self.lead < council.posts() && 1 <= self.step && self.step <= LAST_STEP && self.edition != 0
+        self.lead < council.posts() && (1..=LAST_STEP).contains(&self.step) && self.edition != 0
     }
 }

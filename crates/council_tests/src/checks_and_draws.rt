@@ -48,10 +48,8 @@ fn empty_list(rt: HostRuntime) -> Result<(), Fail> {
 // The draw is for so many posts, and the first views have these leads.
 fn draws<D: Draw>(rt: &impl Abort, draw: &D, posts: u8, leads: &[u8]) {
     assert_eq!(rt; draw.posts(), posts);
-    let mut view = 0u16;
-    for lead in leads {
+    for (view, lead) in (0u16..).zip(leads) {
         assert_eq!(rt; draw.lead_of(view), *lead);
-        view = view.wrapping_add(1);
     }
 }
 
@@ -95,25 +93,15 @@ fn tables(rt: HostRuntime) -> Result<(), Fail> {
 fn tables_refused(rt: HostRuntime) -> Result<(), Fail> {
     let mut table = Table::new(rt.alloc())?;
     table.set(4, vec![in rt.alloc(); 3, 1]?)?;
-    assert_eq!(rt;
-        table.set(4, Vec::with_capacity(rt.alloc(), 0)?),
-        Err(Refusal::BadOpening)
-    );
-    draws(&rt, &table, 4, &[3, 1, 3]);
-    assert_eq!(rt;
-        table.set(4, vec![in rt.alloc(); 0, 4]?),
-        Err(Refusal::BadOpening)
-    );
-    draws(&rt, &table, 4, &[3, 1, 3]);
-    assert_eq!(rt;
-        table.set(0, vec![in rt.alloc(); 0]?),
-        Err(Refusal::BadOpening)
-    );
-    draws(&rt, &table, 4, &[3, 1, 3]);
-    assert_eq!(rt;
-        table.set(65, vec![in rt.alloc(); 0]?),
-        Err(Refusal::BadOpening)
-    );
-    draws(&rt, &table, 4, &[3, 1, 3]);
+    let refused = [
+        (4, Vec::with_capacity(rt.alloc(), 0)?),
+        (4, vec![in rt.alloc(); 0, 4]?),
+        (0, vec![in rt.alloc(); 0]?),
+        (65, vec![in rt.alloc(); 0]?),
+    ];
+    for (n, entries) in refused {
+        assert_eq!(rt; table.set(n, entries), Err(Refusal::BadOpening));
+        draws(&rt, &table, 4, &[3, 1, 3]);
+    }
     Ok(())
 }

@@ -20,9 +20,6 @@ impl Random {
         self.state ^= self.state << 13;
         self.state ^= self.state >> 17;
         self.state ^= self.state << 5;
-        if bound == 0 {
-            return 0;
-        }
-        self.state % bound
+        self.state.checked_rem(bound).unwrap_or(0)
     }
 }

@@ -2,11 +2,11 @@
 -- A reader must believe: `in_list`, the editions of a list but for 0; and `remainder_one`, those that
 -- leave remainder 1 on division by 97.
 use Rattle.std.specs.Prelude.{ℕ, ◌%◌, Bool, not, ◌&&◌, List, ◌==◌, nat_eq}
-use Rattle.council.specs.Lists.{any}
+use Rattle.std.specs.List.{list_any}
 
 -- the number stands in the list
 abbrev pub among : List ℕ → ℕ → Bool
-among xs e = any (λ x. nat_eq x e) xs
+among xs e = list_any (λ x. nat_eq x e) xs
 
 -- it stands in the list, and is not 0
 abbrev pub in_list : List ℕ → ℕ → Bool

@@ -1,6 +1,6 @@
 // A check by a list.
 ghost use Rattle.std.specs.Prelude.{◌≡◌};
-ghost use Rattle.editions.specs.Editions.{among, in_list};
+ghost use Rattle.editions.specs.Editions.{in_list};
 ghost use Rattle.std.proofs.Common.{rules};
 
 use council::check::Check;
@@ -9,13 +9,6 @@ use council::check::Check;
 #[derive(Drop)]
 pub struct ListCheck {
     editions: Vec<u64>,
-}
-
-// Whether the edition stands in the list.
-fn is_among(editions: &[u64], edition: u64) -> bool
-    ensures { result ≡ among editions.now edition }
-{
-    editions.contains(&edition)
 }
 
 impl ListCheck {
@@ -34,6 +27,6 @@ impl Check for ListCheck {
     ghost lacks = { Prim.search rules };
 
     fn admits(&self, edition: u64) -> bool {
-        edition != 0 && is_among(&self.editions, edition)
+        edition != 0 && self.editions.contains(&edition)
     }
 }

@@ -1,4 +1,4 @@
 pub mod Counting
 pub mod Naming
 pub mod Tallies
-pub mod Steps
+pub mod Folded

@@ -2,7 +2,7 @@
 use Rattle.std.proofs.Common.{◌≡◌, ℕ, zero, suc, ◌+◌, ◌-◌, ◌*◌, ◌/◌, ◌%◌, ◌^◌, ◌<◌, ◌≤◌, false, cond, ◌||◌, eqb, sym, refl, ap, ◌∙◌, subst, inl, inr, mod-lt, pow-suc, arith, pow_pos, pow_mono}
 use native.Mathlib.Nat.{div_self, div-eq_of_lt, zero-div, mul-mod_left}
 use lib.Bits.{bit_or, or_shr, or_mod, or_zero_r}
-use Rattle.std.proofs.lemmas.Nat.{pow-add, shl-shr, pow_below, shr_below, shr_split}
+use Rattle.std.proofs.lemmas.Nat.{one_shl, pow-add, shl-shr, pow_below, shr_below, shr_split}
 use Rattle.std.proofs.lemmas.Bool.{or_left, eqb-true, eqb-false, eq-eqb, ne_eqb, lt-ltb, le-ltb, cases_order, cases_lt, cases_Bool}
 use Rattle.masks.specs.Masks.{named, naming, Inside}
 
@@ -50,6 +50,10 @@ naming_low m p h = ap (λ b. cond b (bit_or m (2 ^ p)) m) (lt-ltb p 64 h)
 pub naming_high : (m p : ℕ) → 64 ≤ p → naming m p ≡ m
 unfolding naming
 naming_high m p h = ap (λ b. cond b (bit_or m (2 ^ p)) m) (le-ltb p 64 h)
+
+-- what `mask | 1 << q` is
+pub or_naming : (m q : ℕ) → q < 64 → bit_or m (1 * 2 ^ q % 2 ^ 64) ≡ naming m q
+or_naming m q h = ap (bit_or m) (one_shl q 64 h) ∙ sym (naming_low m q h)
 
 -- a post is named after adding q exactly if it is q or was named before
 pub named-naming : (m q p : ℕ) → q < 64 → named (naming m q) p ≡ (eqb p q || named m p)

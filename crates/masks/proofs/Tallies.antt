@@ -37,9 +37,9 @@ count_ones (suc n) m h =
     let step = ones_step m in
     omega arith
 
-pub tally_ones : (m : ℕ) → m < 2 ^ 64 → tally m ≡ ones m
+pub ones_tally : (m : ℕ) → m < 2 ^ 64 → ones m ≡ tally m
 unfolding tally
-tally_ones m h = count_ones 64 m h
+ones_tally m h = sym (count_ones 64 m h)
 
 -- where a mask names posts below n alone, it names as many as it names below n
 pub tally_inside : (n m : ℕ) → n ≤ 64 → Inside m n → tally m ≡ count n (named m)

@@ -1,5 +1,6 @@
 // A set of posts as a 64-bit number, whose bit p names post p (the field's word: signer bitmap).
-// Posts from 64 on have no bit: no mask names them, and adding one changes nothing.
+// Posts from 64 on have no bit: no mask names them, and adding one changes nothing. A mask is a
+// plain number: a letter's must read back whatever bits it has, so a type round it would carry no fact.
 ghost use Rattle.std.specs.Prelude.{◌≡◌, ℕ, ◌<◌, ◌≤◌, true, ◌||◌, Decides, ◌==◌};
 ghost use Rattle.masks.specs.Masks.{Inside, named, naming, tally};
 
@@ -24,6 +25,7 @@ pub fn with_post(mask: u64, post: u8) -> u64
 }
 
 // How many posts the mask names.
+#[tactic(auto, using(crate::proofs::Tallies::ones_tally))]
 pub fn size(mask: u64) -> u8
     ensures { result ≡ tally mask }
 {

@@ -31,11 +31,8 @@ pub trait Entry {
 pub fn senders<E: Entry>(entries: &[E], matter: &E::Matter) -> u64
     ensures { Senders E.from E.about entries.now (length entries.now) matter.now result }
 {
-    let mut mask = 0;
-    for entry in entries {
-        if entry.matter() == *matter {
-            mask = with_post(mask, entry.sender());
-        }
-    }
-    mask
+    entries
+        .iter()
+        .filter(|entry| entry.matter() == *matter)
+        .fold(0, |mask, entry| with_post(mask, entry.sender()))
 }

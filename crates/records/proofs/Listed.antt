@@ -1,11 +1,11 @@
 -- Lists of signatures: what they have, one more at the end, and who is behind a statement. Assumes
 -- nothing.
-use Rattle.std.specs.Prelude.{◌≡◌, ℕ, ◌<◌, Bool, true, false, not, List, [], ◌∷◌, ◌++◌, length, Decides, ◌==◌, nat_lt, refl}
-use Rattle.std.proofs.Common.{sym, ◌∙◌, inl, inr, arith}
+use Rattle.std.specs.Prelude.{◌≡◌, ℕ, ◌<◌, true, false, not, List, [], ◌∷◌, ◌++◌, length, Decides, ◌==◌, nat_lt, refl}
+use Rattle.std.proofs.Common.{◌∙◌}
 use Rattle.std.proofs.Math.Path.{fun_ext}
-use Rattle.std.specs.List.{HoldsAt, IsAnyAnswer}
-use Rattle.std.proofs.lemmas.Bool.{lt-ltb, and_parts, and_from, or_parts, or_from, not-true, not_from_false, cases_Bool, both_ways}
+use Rattle.std.proofs.lemmas.Bool.{lt-ltb, and_parts, and_from, or_parts, or_from, not-true, not_from_false}
 use Rattle.std.proofs.lemmas.Bool.Decides.{Decides-and, Decides-eqb, same_from_decides}
+use Rattle.std.proofs.lemmas.List.Folds.{list_all-append}
 use Rattle.masks.specs.Masks.{named}
 use Rattle.masks.specs.Senders.{SentIn}
 use Rattle.council.specs.declared.statement.Statement.{Statement}
@@ -15,18 +15,6 @@ use Rattle.council.specs.Signatures.{adding, by, distinct, listed, same}
 use Rattle.council.proofs.Same.{decides-same, decides-same_statement}
 use Rattle.council.proofs.Tests.{any_push, decided_swap, decides-any}
 use Rattle.records.specs.Lists.{all_masked, masked_listed}
-
--- a signature is listed where it stands at some place
-pub decides-listed : (l : List Signature) (x : Signature) → Decides (listed l x) ((k : ℕ) × (k < length l) × HoldsAt (λ y. y ≡ x) l k)
-decides-listed l x = decides-any (λ y. same y x) (λ y. y ≡ x) (λ y. decides-same y x) l
-
--- what `contains` answers
-pub contains-listed : (l : List Signature) (x : Signature) (r : Bool) → IsAnyAnswer (λ y b. same y x ≡ b) l r → r ≡ listed l x
-contains-listed l x true h = sym ((decides-listed l x).1 (h.0, h.1, λ d. (decides-same _ x).0 (h.2 d)))
-contains-listed l x false h = elim (cases_Bool (listed l x)) [
-  | inl e ↦ let w = (decides-listed l x).0 e in absurd (both_ways false refl (sym (h w.0 x (omega arith) w.1) ∙ (decides-same _ x).1 (w.2 x)))
-  | inr e ↦ sym e
-]
 
 -- ---- one more at the end
 
@@ -42,10 +30,7 @@ distinct_push (z ∷ l) x h k =
     and_from _ _ (not_from_false _ (any_push (λ y. same y z) l x ∙ or_from (same x z) (listed l z) (decided_swap same decides-same x z ∙ b.0) (not-true _ a.0))) (distinct_push l x a.1 b.1)
 
 pub masked_push : (l : List Signature) (x : Signature) → all_masked l ≡ true → x.signer < 64 → all_masked (l ++ x ∷ []) ≡ true
-masked_push [] x h k = and_from (nat_lt x.signer 64) true (lt-ltb x.signer 64 k) refl
-masked_push (y ∷ l) x h k =
-    let a = and_parts (nat_lt y.signer 64) (all_masked l) h in
-    and_from (nat_lt y.signer 64) (all_masked (l ++ x ∷ [])) a.0 (masked_push l x a.1 k)
+masked_push l x h k = list_all-append (λ y. nat_lt y.signer 64) l (x ∷ []) ∙ and_from (all_masked l) _ h (and_from (nat_lt x.signer 64) true (lt-ltb x.signer 64 k) refl)
 
 -- ---- who is behind a statement
 

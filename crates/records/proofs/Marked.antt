@@ -1,9 +1,11 @@
 -- The rows of a sheet: what they mark, that they stay apart, and how many they mark. Assumes nothing.
-use Rattle.std.specs.Prelude.{◌≡◌, ℕ, zero, suc, ◌+◌, ◌<◌, Bool, true, false, not, ◌&&◌, ◌||◌, List, [], ◌∷◌, ◌++◌, length, Decides, ◌==◌, ◌≢◌, nat_eq, nat_lt, slice_index_or, slice_set, refl}
+use Rattle.std.specs.Prelude.{◌≡◌, ℕ, zero, suc, ◌+◌, ◌<◌, Bool, true, false, cond, not, ◌&&◌, ◌||◌, List, [], ◌∷◌, ◌++◌, length, Decides, ◌==◌, ◌≢◌, nat_eq, nat_lt, slice_index_or, slice_set, Option, Some, None, refl}
 use Rattle.std.proofs.Math.Path.{sym, ap, fun_ext}
 use Rattle.std.proofs.Common.{ap₂, ◌∙◌, inl, inr, arith}
-use Rattle.std.specs.List.{HoldsAt, AllWithin}
+use Rattle.std.specs.Option.{MatchOption, option_map}
+use Rattle.std.specs.List.{HoldsAt, AllWithin, find}
 use Rattle.std.proofs.lemmas.List.{get_or_default}
+use Rattle.std.proofs.lemmas.List.Sums.{sum_by-set, sum_by_push}
 use Rattle.std.proofs.lemmas.Bool.{lt-ltb, and_parts, and_from, and_right, or_parts, or_from, not-true, not_from_false, cases_Bool, both_ways}
 use Rattle.std.proofs.lemmas.Bool.Decides.{Decides-eqb}
 use Rattle.masks.specs.Masks.{named, naming, tally}
@@ -16,7 +18,7 @@ use Rattle.council.specs.Signatures.{adding, by, same}
 use Rattle.council.proofs.Same.{decides-same, decides-same_statement}
 use Rattle.council.proofs.Tests.{any_push, decided_swap, decides-any, turn}
 use Rattle.records.specs.declared.row.Row.{Row}
-use Rattle.records.specs.Rows.{MarkedToo, apart, marked, marks, on_sheet, stated, total}
+use Rattle.records.specs.Rows.{Found, MarkedToo, apart, marked, marks, on_sheet, stated, total}
 use Rattle.records.specs.Spread.{marked_none}
 
 -- ---- which statements have a row
@@ -24,7 +26,7 @@ use Rattle.records.specs.Spread.{marked_none}
 decides-stated : (rs : List Row) (s : Statement) → Decides (stated rs s) ((k : ℕ) × (k < length rs) × HoldsAt (λ r. r.statement ≡ s) rs k)
 decides-stated rs s = decides-any (λ r. same_statement r.statement s) (λ r. r.statement ≡ s) (λ r. decides-same_statement r.statement s) rs
 
-pub stated_none : (rs : List Row) (s : Statement) → AllWithin (λ r. r.statement ≢ s) rs 0 (length rs) → stated rs s ≡ false
+stated_none : (rs : List Row) (s : Statement) → AllWithin (λ r. r.statement ≢ s) rs 0 (length rs) → stated rs s ≡ false
 stated_none rs s h = elim (cases_Bool (stated rs s)) [
   | inl e ↦
       let w = (decides-stated rs s).0 e in
@@ -32,6 +34,11 @@ stated_none rs s h = elim (cases_Bool (stated rs s)) [
       absurd (h w.0 d (omega arith) w.1 (w.2 d))
   | inr e ↦ e
 ]
+
+-- what `position` answers
+pub found_first : (rs : List Row) (s : Statement) (r : Option ℕ) → MatchOption r (AllWithin (λ r. r.statement ≢ s) rs 0 (length rs)) (λ i. (i < length rs) × HoldsAt (λ r. r.statement ≡ s) rs i × AllWithin (λ r. r.statement ≢ s) rs 0 i) → Found rs s r
+found_first rs s (Some i) h = (h.0, h.1)
+found_first rs s None h = stated_none rs s h
 
 stated_at : (rs : List Row) (i : ℕ) (d : Row) (s : Statement) → i < length rs → (slice_index_or rs i d).statement ≡ s → stated rs s ≡ true
 stated_at rs i d s l h = (decides-stated rs s).1 (i, l, λ e. ap (λ (r : Row). r.statement) (get_or_default rs i e d l) ∙ h)
@@ -104,13 +111,7 @@ apart_push (r ∷ rs) new a h =
 -- ---- how many are marked
 
 total_set : (rs : List Row) (i : ℕ) (d new : Row) → i < length rs → tally new.signers ≡ tally (slice_index_or rs i d).signers + 1 → total (slice_set rs i new) ≡ total rs + 1
-total_set [] i d new l h = absurd (omega arith)
-total_set (r ∷ rs) zero d new l h = omega arith
-total_set (r ∷ rs) (suc i) d new l h = omega (arith, total_set rs i d new (omega arith) h)
-
-total_push : (rs : List Row) (new : Row) → total (rs ++ new ∷ []) ≡ total rs + tally new.signers
-total_push [] new = omega arith
-total_push (r ∷ rs) new = omega (arith, total_push rs new)
+total_set rs i d new l h = omega (arith, sum_by-set (λ r. tally r.signers) rs i new d l)
 
 -- ---- one signature more
 
@@ -133,15 +134,40 @@ module _ (rs : List Row) (x : Signature) (low : x.signer < 64) (sound : apart rs
   marked_in_new m none only = record {
     marks = fun_ext (λ y. ap (λ k. marked (rs ++ record { statement = x.statement; signers = k } ∷ []) y) only ∙ marked_push rs x.statement x.signer low y);
     apart = apart_push rs (record { statement = x.statement; signers = m }) sound none;
-    total = total_push rs (record { statement = x.statement; signers = m }) ∙ ap (λ k. total rs + k) (ap tally only ∙ tally-naming 0 x.signer low (named_zero x.signer) ∙ ap (λ k. k + 1) tally_none);
+    total = sum_by_push (λ r. tally r.signers) rs (record { statement = x.statement; signers = m }) ∙ ap (λ k. total rs + k) (ap tally only ∙ tally-naming 0 x.signer low (named_zero x.signer) ∙ ap (λ k. k + 1) tally_none);
   }
 
 -- ---- what a sheet holds
 
 -- a test that holds of posts with a bit alone
-pub only_low : (p : ℕ) (r m : Bool) → r ≡ m → (r ≡ true → p < 64) → r ≡ (nat_lt p 64 && m)
+only_low : (p : ℕ) (r m : Bool) → r ≡ m → (r ≡ true → p < 64) → r ≡ (nat_lt p 64 && m)
 only_low p true m e low = ap₂ (λ a b. a && b) (sym (lt-ltb p 64 (low refl))) e
 only_low p false m e low = sym (and_right (nat_lt p 64) m (sym e))
+
+-- what the row of its statement says of a signature
+abbrev named_by : Signature → Option Row → Bool
+named_by x (Some r) = named r.signers x.signer
+named_by x None = false
+
+marked_found : (rs : List Row) (x : Signature) → apart rs ≡ true → marked rs x ≡ named_by x (find (λ r. same_statement r.statement x.statement) rs)
+marked_found [] x a = refl
+marked_found (r ∷ rs) x a =
+    let p = and_parts (not (stated rs r.statement)) (apart rs) a in
+    go (same_statement r.statement x.statement) refl (not-true _ p.0) (marked_found rs x p.1)
+  where
+    later : Option Row
+    later = find (λ r. same_statement r.statement x.statement) rs
+
+    go : (b : Bool) → same_statement r.statement x.statement ≡ b → stated rs r.statement ≡ false → marked rs x ≡ named_by x later → ((b && named r.signers x.signer) || marked rs x) ≡ named_by x (cond b (Some r) later)
+    go true e alone rest =
+        let none = marked_none rs x (ap (stated rs) (sym ((decides-same_statement r.statement x.statement).0 e)) ∙ alone) in
+        ap (λ b. named r.signers x.signer || b) none ∙ or_false (named r.signers x.signer)
+    go false e alone rest = rest
+
+-- what is asked of the row that `find` answers
+pub found_holds : {A : Type 0} (v : A → Row) (rs : List Row) (x : Signature) (o : Option A) (r : Bool) (Q : A → Type 0) → apart rs ≡ true → option_map v o ≡ find (λ r. same_statement r.statement x.statement) rs → MatchOption o (r ≡ false) Q → ((y : A) → Q y → (r ≡ named (v y).signers x.signer) × (r ≡ true → x.signer < 64)) → r ≡ on_sheet rs x
+found_holds v rs x (Some y) r Q a e h each = only_low x.signer r (marked rs x) ((each y h).0 ∙ ap (named_by x) e ∙ sym (marked_found rs x a)) (each y h).1
+found_holds v rs x None r Q a e h each = h ∙ sym (and_right (nat_lt x.signer 64) (marked rs x) (marked_found rs x a ∙ ap (named_by x) (sym e)))
 
 with_low : (l s m : Bool) → (s ≡ true → l ≡ true) → (l && (s || m)) ≡ (s || (l && m))
 with_low true true m h = refl

@@ -5,14 +5,14 @@ use Rattle.std.specs.List.{HoldsAt}
 use Rattle.masks.specs.Masks.{named, tally}
 use Rattle.council.specs.declared.statement.Statement.{Statement}
 use Rattle.council.specs.declared.statement.Signature.{Signature}
-use Rattle.council.specs.Lists.{any}
+use Rattle.std.specs.List.{list_any, sum_by}
 use Rattle.council.specs.Statements.{same_statement}
 use Rattle.council.specs.Signatures.{adding}
 use Rattle.records.specs.declared.row.Row.{Row}
 
 -- a row is on the statement
 abbrev pub stated : List Row → Statement → Bool
-stated rs s = any (λ r. same_statement r.statement s) rs
+stated rs s = list_any (λ r. same_statement r.statement s) rs
 
 -- the place of a row on the statement, or that no row is on it
 abbrev pub Found : List Row → Statement → Option ℕ → Type 0
@@ -30,7 +30,7 @@ marks r x = same_statement r.statement x.statement && named r.signers x.signer
 
 -- a row marks the signature
 abbrev pub marked : List Row → Signature → Bool
-marked rs x = any (λ r. marks r x) rs
+marked rs x = list_any (λ r. marks r x) rs
 
 -- what a sheet holds: what its rows mark, of the signers that have a bit
 abbrev pub on_sheet : List Row → Signature → Bool
@@ -38,8 +38,7 @@ on_sheet rs x = nat_lt x.signer 64 && marked rs x
 
 -- how many signatures the rows mark
 abbrev pub total : List Row → ℕ
-total [] = 0
-total (r ∷ rs) = tally r.signers + total rs
+total = sum_by (λ r. tally r.signers)
 
 -- rows that mark x, and else what they marked before
 pub record MarkedToo (before after : List Row) (x : Signature) : Type 0 where

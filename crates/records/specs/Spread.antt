@@ -9,7 +9,8 @@ use Rattle.council.specs.declared.statement.Signature.{Signature}
 use Rattle.council.specs.Statements.{same_statement}
 use Rattle.council.specs.Signatures.{by, distinct, listed, same}
 use Rattle.council.proofs.Same.{decides-same_statement, same_self}
-use Rattle.council.proofs.Tests.{any_append}
+use Rattle.std.proofs.lemmas.List.Folds.{list_any-append}
+use Rattle.std.proofs.lemmas.List.Sums.{sum_by-cons}
 use Rattle.records.specs.declared.row.Row.{Row}
 use Rattle.records.specs.Rows.{apart, marked, marks, stated, total}
 
@@ -37,7 +38,7 @@ distinct_append (y ∷ a) b p q off =
     let h = and_parts (not (listed a y)) (distinct a) p in
     let here : listed (y ∷ a) y ≡ true = ap (λ t. t || listed a y) (same_self y) in
     and_from (not (listed (a ++ b) y)) (distinct (a ++ b))
-    (not_from_false _ (any_append (λ z. same z y) a b ∙ or_from (listed a y) (listed b y) (not-true _ h.0) (off y here)))
+    (not_from_false _ (list_any-append (λ z. same z y) a b ∙ or_from (listed a y) (listed b y) (not-true _ h.0) (off y here)))
     (distinct_append a b h.1 q (λ x e. off x (or_right (same y x) (listed a x) e)))
 
 -- ---- one row
@@ -101,7 +102,7 @@ and_or false a b = refl
 
 pub listed-spread : (n : ℕ) (rs : List Row) (x : Signature) → listed (spread n rs) x ≡ (nat_lt x.signer n && marked rs x)
 listed-spread n [] x = sym (and_right (nat_lt x.signer n) false refl)
-listed-spread n (r ∷ rs) x = any_append (λ z. same z x) (spread_row n r) (spread n rs) ∙ ap₂ (λ a b. a || b) (listed_row r x n) (listed-spread n rs x) ∙ and_or (nat_lt x.signer n) (marks r x) (marked rs x)
+listed-spread n (r ∷ rs) x = list_any-append (λ z. same z x) (spread_row n r) (spread n rs) ∙ ap₂ (λ a b. a || b) (listed_row r x n) (listed-spread n rs x) ∙ and_or (nat_lt x.signer n) (marks r x) (marked rs x)
 
 pub distinct-spread : (n : ℕ) (rs : List Row) → apart rs ≡ true → distinct (spread n rs) ≡ true
 distinct-spread n [] a = refl
@@ -118,4 +119,4 @@ distinct-spread n (r ∷ rs) a =
 pub length-spread : (rs : List Row) → length (spread 64 rs) ≡ total rs
 unfolding tally
 length-spread [] = refl
-length-spread (r ∷ rs) = length-append (spread_row 64 r) (spread 64 rs) ∙ ap₂ (λ a b. a + b) (length_row 64 r) (length-spread rs)
+length-spread (r ∷ rs) = length-append (spread_row 64 r) (spread 64 rs) ∙ ap₂ (λ a b. a + b) (length_row 64 r) (length-spread rs) ∙ sym (sum_by-cons (λ r. tally r.signers) r rs)

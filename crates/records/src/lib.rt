@@ -4,3 +4,4 @@
 pub mod list;
 mod row;
 pub mod sheet;
+mod wanted;

@@ -1,10 +1,11 @@
 // A record that is a list of signatures.
-ghost use Rattle.std.specs.Prelude.{◌≡◌, ℕ, ◌+◌, ◌<◌, ◌≤◌, true, false, [], IfOk, vec_len, vec_capacity, refl};
+ghost use Rattle.std.specs.Prelude.{◌≡◌, ℕ, ◌≤◌, true, [], IfOk, vec_len, vec_capacity, refl};
 ghost use Rattle.std.proofs.Common.{sym};
 ghost use Rattle.masks.specs.Masks.{named};
-ghost use Rattle.council.specs.Signatures.{adding, by, distinct, listed};
+ghost use Rattle.council.specs.Signatures.{by, distinct, listed};
 ghost use Rattle.records.specs.Lists.{all_masked, masked_listed};
 
+use crate::wanted::is_wanted;
 use council::signing::Record;
 use council::statement::{Signature, Statement};
 use masks::senders::senders;
@@ -12,7 +13,8 @@ use refusals::Refusal;
 use std::alloc::{AllocError, Global};
 
 // Signatures in the order in which they came, none twice. The memory for all of them is reserved
-// when the record is made.
+// when the record is made: no call allocates after `new`, so this is a list and no map. The number
+// of places stands beside it, since a Vec may have more capacity than was asked for.
 #[derive(Drop)]
 pub struct ListRecord {
     signatures: Vec<Signature>,
@@ -23,7 +25,8 @@ pub struct ListRecord {
 }
 
 impl ListRecord {
-    // An empty record with so many places, each for a signature.
+    // An empty record with so many places, each for a signature. It reads like the sheet's: each sets
+    // fields of its own, and one for both would say no more.
     pub fn new(heap: Global, places: usize) -> Result<ListRecord, AllocError>
         ensures { IfOk result (λ l. (l.signatures.items ≡ []) × (l.places ≡ places)) }
     {
@@ -38,18 +41,6 @@ impl ListRecord {
         ensures { (p : ℕ) → named result p ≡ listed self.now.signatures.items (by p statement.now) }
     {
         senders(&self.signatures, statement)
-    }
-
-    // Adds a signature that is not held, where there is a place for it.
-    fn add(&mut self, signature: Signature)
-        requires signer { signature.signer < 64 }
-        requires new { listed self.old.signatures.items signature ≡ false }
-        requires place { vec_len self.old.signatures < self.old.places }
-        ensures held { listed self.new.signatures.items ≡ adding (listed self.old.signatures.items) signature }
-        ensures number { vec_len self.new.signatures ≡ vec_len self.old.signatures + 1 }
-        ensures places { self.new.places ≡ self.old.places }
-    {
-        self.signatures.push_reserved(signature);
     }
 }
 
@@ -76,16 +67,10 @@ impl Record for ListRecord {
     }
 
     fn sign(&mut self, signature: Signature) -> Result<(), Refusal> {
-        if signature.signer >= 64 {
-            return Err(Refusal::NoSuchPost);
+        let full = self.signatures.len() == self.places;
+        if is_wanted(&signature, self.holds(&signature), full)? {
+            self.signatures.push_reserved(signature);
         }
-        if self.holds(&signature) {
-            return Ok(());
-        }
-        if self.signatures.len() == self.places {
-            return Err(Refusal::RecordFull);
-        }
-        self.add(signature);
         Ok(())
     }
 }

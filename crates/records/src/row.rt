@@ -13,15 +13,10 @@ pub struct Row {
 }
 
 // The place of the row on the statement.
-pub(crate) fn find(rows: &[Row], statement: &Statement) -> Option<usize>
+fn find(rows: &[Row], statement: &Statement) -> Option<usize>
     ensures { Found rows.now statement.now result }
 {
-    for (i, row) in rows.iter().enumerate() {
-        if row.statement == *statement {
-            return Some(i);
-        }
-    }
-    None
+    rows.iter().position(|row| row.statement == *statement)
 }
 
 // Marks a signature that is not marked, in the row of its statement, which is added where there is

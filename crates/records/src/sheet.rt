@@ -1,12 +1,12 @@
 // A record that is a sheet with a row for each statement.
-ghost use Rattle.std.specs.Prelude.{◌≡◌, ◌+◌, ◌<◌, ◌≤◌, true, false, [], IfOk, nat_lt, vec_len, vec_capacity};
+ghost use Rattle.std.specs.Prelude.{◌≡◌, ◌≤◌, true, [], IfOk, nat_lt, vec_len, vec_capacity};
 ghost use Rattle.std.proofs.Common.{sym, ◌∙◌};
 ghost use Rattle.std.proofs.lemmas.Bool.{ltb-true, and_parts};
-ghost use Rattle.council.specs.Signatures.{adding};
 ghost use Rattle.records.specs.Rows.{apart, marked, on_sheet, total};
 ghost use Rattle.records.specs.Spread.{spread, listed-spread, distinct-spread, length-spread};
 
-use crate::row::{Row, find, mark};
+use crate::row::{Row, mark};
+use crate::wanted::is_wanted;
 use council::signing::Record;
 use council::statement::Signature;
 use masks::mask::names_post;
@@ -15,7 +15,8 @@ use std::alloc::{AllocError, Global};
 
 // A row for each statement that was signed, with the mask of its signers. The memory is reserved
 // when the record is made: as many rows as places, since each signature may be on a statement of
-// its own.
+// its own. No call allocates after `new`, so the rows are a list and no map. The number of places
+// stands beside it, since a Vec may have more capacity than was asked for.
 #[derive(Drop)]
 pub struct SheetRecord {
     rows: Vec<Row>,
@@ -27,7 +28,8 @@ pub struct SheetRecord {
 }
 
 impl SheetRecord {
-    // An empty record with so many places, each for a signature.
+    // An empty record with so many places, each for a signature. It reads like the list's: each sets
+    // fields of its own, and one for both would say no more.
     pub fn new(heap: Global, places: usize) -> Result<SheetRecord, AllocError>
         ensures { IfOk result (λ s. (s.rows.items ≡ []) × (s.places ≡ places)) }
     {
@@ -36,19 +38,6 @@ impl SheetRecord {
             number: 0,
             places,
         })
-    }
-
-    // Adds a signature that is not held, where there is a place for it.
-    fn add(&mut self, signature: Signature)
-        requires signer { signature.signer < 64 }
-        requires new { on_sheet self.old.rows.items signature ≡ false }
-        requires place { self.old.number < self.old.places }
-        ensures held { on_sheet self.new.rows.items ≡ adding (on_sheet self.old.rows.items) signature }
-        ensures number { self.new.number ≡ self.old.number + 1 }
-        ensures places { self.new.places ≡ self.old.places }
-    {
-        mark(&mut self.rows, signature);
-        self.number += 1;
     }
 }
 
@@ -69,10 +58,10 @@ impl Record for SheetRecord {
     ghost within = { λ s. s.room.1 };
 
     fn holds(&self, signature: &Signature) -> bool {
-        match find(&self.rows, &signature.statement) {
-            Some(i) => names_post(self.rows[i].signers, signature.signer),
-            None => false,
-        }
+        self.rows
+            .iter()
+            .find(|row| row.statement == signature.statement)
+            .is_some_and(|row| names_post(row.signers, signature.signer))
     }
 
     fn count(&self) -> usize {
@@ -80,16 +69,11 @@ impl Record for SheetRecord {
     }
 
     fn sign(&mut self, signature: Signature) -> Result<(), Refusal> {
-        if signature.signer >= 64 {
-            return Err(Refusal::NoSuchPost);
+        let full = self.number == self.places;
+        if is_wanted(&signature, self.holds(&signature), full)? {
+            mark(&mut self.rows, signature);
+            self.number += 1;
         }
-        if self.holds(&signature) {
-            return Ok(());
-        }
-        if self.number == self.places {
-            return Err(Refusal::RecordFull);
-        }
-        self.add(signature);
         Ok(())
     }
 }

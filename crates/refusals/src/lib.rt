@@ -2,55 +2,53 @@
 // their numbers.
 #![tactic(auto)]
 
-ghost use Rattle.std.specs.Prelude.{◌≡◌, ◌≤◌, ◌==◌, Decides};
+ghost use Rattle.std.specs.Prelude.{◌≡◌, ◌≤◌, [], ◌∷◌};
 ghost use Rattle.refusals.specs.Numbers.{number_of};
-ghost use Rattle.std.specs.Cmp.Rules.{comparing};
-ghost use Rattle.std.proofs.Common.{rules};
-ghost use Rattle.std.specs.Cmp as Keys;
+ghost use Rattle.refusals.specs.Tables.{first_refusal};
 
 // A refusal: a call that breaks a condition answers the lowest number that applies and changes
 // nothing (the field's word: error code). docs/REFUSALS.md says when each comes.
-#[derive(Clone, Copy, Debug, Eq)]
+#[derive(Clone, Copy, Debug, PartialEq, Eq)]
 pub enum Refusal {
     // Opening: f is not 1 to 21, too few posts are handed in, or the draw is for another n. Setting a
     // draw: it makes none.
-    BadOpening,
+    BadOpening = 1,
     // Opening: the record holds a signature.
-    RecordNotEmpty,
+    RecordNotEmpty = 2,
     // The post or sender is not below n. Signing: the signer is above 63.
-    NoSuchPost,
+    NoSuchPost = 3,
     // The letter number is not on the roll.
-    NoSuchLetter,
+    NoSuchLetter = 4,
     // Start, deliver, corrupt: the post is corrupted.
-    PostCorrupted,
+    PostCorrupted = 5,
     // Plant, endorse: the post is not corrupted.
-    PostNotCorrupted,
+    PostNotCorrupted = 6,
     // Corrupt: f posts are corrupted already.
-    TooManyCorrupted,
+    TooManyCorrupted = 7,
     // Start: the post is not idle. Deliver: it is idle or ended.
-    PostNotReady,
+    PostNotReady = 8,
     // A letter, statement or question has no shape, or the started edition is 0.
-    Malformed,
+    Malformed = 9,
     // The letter's view is not the post's.
-    OtherView,
+    OtherView = 10,
     // The post's phase does not take letters of this kind.
-    KindNotTaken,
+    KindNotTaken = 11,
     // ACK: lead, step or edition is not the post's own.
-    NotOwnBroadcast,
+    NotOwnBroadcast = 12,
     // The step was signed for this lead, or the sender was counted.
-    Repeated,
+    Repeated = 13,
     // The check turns the edition down.
-    EditionNotAdmitted,
+    EditionNotAdmitted = 14,
     // The key view is below the lock, or not below the view.
-    KeyViewOutOfRange,
+    KeyViewOutOfRange = 15,
     // A certificate is not good, or a signature is not held.
-    NotCertified,
+    NotCertified = 16,
     // The roll lacks places for the letters to be added.
-    RollFull,
+    RollFull = 17,
     // The record is full.
-    RecordFull,
+    RecordFull = 18,
     // Writing a line: the buffer is too short.
-    BufferTooShort,
+    BufferTooShort = 19,
 }
 
 impl Refusal {
@@ -60,40 +58,16 @@ impl Refusal {
         ensures range { (1 ≤ result) × (result ≤ 19) }
         ensures apart { (other : Refusal) → number_of other ≡ result → other ≡ self }
     {
-        match self {
-            Refusal::BadOpening => 1,
-            Refusal::RecordNotEmpty => 2,
-            Refusal::NoSuchPost => 3,
-            Refusal::NoSuchLetter => 4,
-            Refusal::PostCorrupted => 5,
-            Refusal::PostNotCorrupted => 6,
-            Refusal::TooManyCorrupted => 7,
-            Refusal::PostNotReady => 8,
-            Refusal::Malformed => 9,
-            Refusal::OtherView => 10,
-            Refusal::KindNotTaken => 11,
-            Refusal::NotOwnBroadcast => 12,
-            Refusal::Repeated => 13,
-            Refusal::EditionNotAdmitted => 14,
-            Refusal::KeyViewOutOfRange => 15,
-            Refusal::NotCertified => 16,
-            Refusal::RollFull => 17,
-            Refusal::RecordFull => 18,
-            Refusal::BufferTooShort => 19,
-        }
+        self as u8
     }
-}
 
-// By the numbers; the contract says that it decides equality.
-impl PartialEq for Refusal {
-    ghost eq = { λ x y. number_of x == number_of y };
-
-    ghost laws = { Keys.partial_equiv_from_equiv (Prim.search (comparing, rules)) };
-
-    fn eq(&self, other: &Refusal) -> bool
-        ensures value { result ≡ (number_of self.now == number_of other.now) }
-        ensures same { Decides result (self.now ≡ other.now) }
+    // Refuses with this, if the test holds.
+    pub fn when(self, test: bool) -> Result<(), Refusal>
+        ensures { result ≡ first_refusal ((test, self) ∷ []) }
     {
-        self.number() == other.number()
+        if test {
+            return Err(self);
+        }
+        Ok(())
     }
 }

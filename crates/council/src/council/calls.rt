@@ -37,6 +37,7 @@ impl Council {
 
     // How many posts make a quorum. The posts that are not bad make one, and any two share a post
     // that is not bad.
+    #[tactic(auto, using(crate::proofs::Quorums::council_meets))]
     pub fn quorum(&self) -> u8
         ensures value { result ≡ self.now.quorum }
         ensures reached { result + self.now.f ≤ self.now.n }

@@ -1,24 +1,11 @@
 // Making and setting a table.
-ghost use Rattle.std.specs.Prelude.{◌≡◌, [], ◌∷◌, IfOk, Decides};
-ghost use Rattle.leads.specs.Leads.{AllUnder};
+ghost use Rattle.std.specs.Prelude.{◌≡◌, [], ◌∷◌, IfOk};
 ghost use Rattle.leads.specs.Settings.{TableSet};
 
 use crate::size::is_drawable;
 use crate::table::Table;
 use refusals::Refusal;
 use std::alloc::{AllocError, Global};
-
-// Whether each entry is below `n`.
-fn all_under(n: u8, entries: &[u8]) -> bool
-    ensures { Decides result (AllUnder n entries.now) }
-{
-    for entry in entries {
-        if *entry >= n {
-            return false;
-        }
-    }
-    true
-}
 
 impl Table {
     // The table for one post.
@@ -36,7 +23,7 @@ impl Table {
     pub fn set(&mut self, n: u8, entries: Vec<u8>) -> Result<(), Refusal>
         ensures { TableSet self.old n entries.items self.new result }
     {
-        if !is_drawable(n) || entries.is_empty() || !all_under(n, &entries) {
+        if !is_drawable(n) || entries.is_empty() || entries.iter().any(|entry| *entry >= n) {
             return Err(Refusal::BadOpening);
         }
         self.n = n;
