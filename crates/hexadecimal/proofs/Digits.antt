@@ -10,15 +10,12 @@ use Rattle.hexadecimal.specs.Hex.{Hex, char_of, digits}
 pub length_digits : (k n : ℕ) → length (digits k n) ≡ k
 unfolding digits
 length_digits zero n = refl
-length_digits (suc k) n = length-append (digits k (n / 16)) (char_of (n % 16) ∷ []) ∙ ap (λ m. m + 1) (length_digits k (n / 16)) ∙ add-one k
+length_digits (suc k) n = omega (arith, length_digits k (n / 16), length-append {A = ℕ})
 
 -- one more digit at the end
 pub digits_more : (k n d : ℕ) → d < 16 → digits (k + 1) (n * 16 + d) ≡ digits k n ++ char_of d ∷ []
 unfolding digits
-digits_more k n d h =
-    let q : (n * 16 + d) / 16 ≡ n = omega arith in
-    let r : (n * 16 + d) % 16 ≡ d = omega arith in
-    rw (add-one, q, r)
+digits_more k n d h = grind arith
 
 pub bound_more : (k n d : ℕ) → n < 16 ^ k → d < 16 → n * 16 + d < 16 ^ (k + 1)
 bound_more k n d h l = rw (add-one, pow-suc) (omega arith)
@@ -27,11 +24,9 @@ pub below_all : (k n : ℕ) → n < 16 ^ k → k ≤ 15 → n < 16 ^ 15
 below_all k n h l = lt_of_lt_of_le h (pow-le-pow_right (omega arith) l)
 
 -- one more digit written in front of those that are written
-pub put_more : (out : List ℕ) (k n : ℕ) → k < length out → digits k (n / 16) ++ drop k (set out k (char_of (n % 16))) ≡ digits (suc k) n ++ drop (suc k) out
+pub put_more : (out : List ℕ) (j k n : ℕ) → j ≡ suc k → j ≤ length out → digits k (n / 16) ++ drop k (set out k (char_of (n % 16))) ≡ digits j n ++ drop j out
 unfolding digits
-put_more out k n h =
-    ap (λ l. digits k (n / 16) ++ l) (drop-set out k (char_of (n % 16)) h)
-    ∙ rw (add-one, append_assoc (digits k (n / 16)) (char_of (n % 16) ∷ []) (drop (suc k) out))
+put_more out j k n e h = rw (drop-set out k (char_of (n % 16)) (omega arith), e, append_assoc (digits k (n / 16)) (char_of (n % 16) ∷ []) (drop (suc k) out), add-one)
 
 char_same : (a b : ℕ) → a < 16 → b < 16 → char_of a ≡ char_of b → a ≡ b
 char_same a b l m e = grind (arith, nat_tests)

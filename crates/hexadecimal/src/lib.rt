@@ -7,7 +7,8 @@ ghost use Rattle.hexadecimal.specs.Hex.{AsNumber, Worth, char_of, digits};
 // The most digits a 64-bit number has.
 const WIDEST: usize = 16;
 
-// The value of a hexadecimal digit: 0 to 9 and small a to f only.
+// The value of a hexadecimal digit: 0 to 9 and small a to f only. The library's `to_digit` and
+// `from_str_radix` take capitals, and the latter a sign.
 pub fn value(byte: u8) -> Option<u8>
     ensures { Worth byte result }
 {
@@ -45,10 +46,7 @@ pub fn number(text: &[u8]) -> Option<u64>
     }
     let mut n = 0;
     for byte in text {
-        let Some(d) = value(*byte) else {
-            return None;
-        };
-        n = n * 16 + u64::from(d);
+        n = n * 16 + u64::from(value(*byte)?);
     }
     Some(n)
 }
@@ -58,6 +56,8 @@ pub fn put(out: &mut [u8], value: u64)
     ensures { out.new ≡ digits (length out.old) value }
 {
     let mut rest = value;
+    // By number: tried over `iter_mut().rev()`, and `returns` stayed open, since nothing is known then of
+    // what was written.
     for place in (0..out.len()).rev() {
         out[place] = last_digit(rest);
         rest /= 16;

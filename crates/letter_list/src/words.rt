@@ -1,4 +1,5 @@
 // The listing in words.
+use letters::kind::Kind;
 use letters::letter::{Body, Holding, Letter};
 use lines::damage::{Damage, Layer};
 use listing::tally::Tally;
@@ -39,6 +40,13 @@ struct Contents(Body);
 #[derive(Drop)]
 struct Posts(u64);
 
+// Posts one after the other.
+#[derive(Drop)]
+struct Run {
+    first: u8,
+    last: u8,
+}
+
 // A holding: an edition and who signed for it, or none.
 #[derive(Drop)]
 struct Held(Holding);
@@ -49,20 +57,9 @@ impl fmt::Display for Heading {
     }
 }
 
-fn kind_name(body: &Body) -> &'static str {
-    match body {
-        Body::Send(_) => "SEND",
-        Body::Ack(_) => "ACK",
-        Body::Done(_) => "DONE",
-        Body::SkipShare(_) => "SKIP-SHARE",
-        Body::Skip(_) => "SKIP",
-        Body::ViewChange(_) => "VIEW-CHANGE",
-    }
-}
-
 impl fmt::Display for Listed {
     fn fmt<W: fmt::Write>(&self, f: &mut fmt::Formatter<W>) -> fmt::Result {
-        let kind = kind_name(&self.letter.body);
+        let kind = self.letter.body.kind();
         write!(
             f,
             "{:>5}  {:>6}  {kind:<11}  {:>4}  {:>5}  {}",
@@ -77,16 +74,10 @@ impl fmt::Display for Listed {
 
 impl fmt::Display for Damaged {
     fn fmt<W: fmt::Write>(&self, f: &mut fmt::Formatter<W>) -> fmt::Result {
-        let layer = match self.damage.layer {
-            Layer::Text => "text",
-            Layer::Frame => "frame",
-        };
         write!(
             f,
-            "{:>5}          damaged      layer {} ({layer}), column {}",
-            self.number,
-            self.damage.layer.number(),
-            self.damage.column
+            "{:>5}          damaged      {}",
+            self.number, self.damage
         )
     }
 }
@@ -136,27 +127,41 @@ impl fmt::Display for Held {
     }
 }
 
+impl Posts {
+    // Where the run that begins with this post ends.
+    fn run(&self, first: u8) -> Run {
+        let last = (first..64)
+            .take_while(|post| names_post(self.0, *post))
+            .last();
+        Run {
+            first,
+            last: last.unwrap_or(first),
+        }
+    }
+}
+
 impl fmt::Display for Posts {
     fn fmt<W: fmt::Write>(&self, f: &mut fmt::Formatter<W>) -> fmt::Result {
-        if self.0 == 0 {
-            return write!(f, "none");
+        let begins = |post: &u8| {
+            names_post(self.0, *post) && (*post == 0 || !names_post(self.0, *post - 1))
+        };
+        let mut runs = (0..64u8).filter(begins).map(|first| self.run(first));
+        match runs.next() {
+            Some(run) => write!(f, "{run}")?,
+            None => return write!(f, "none"),
         }
-        let mut open = false;
-        let mut first = true;
-        for post in 0..64u8 {
-            let named = names_post(self.0, post);
-            let next = names_post(self.0, post + 1);
-            if named && !open {
-                if !first {
-                    write!(f, " ")?;
-                }
-                write!(f, "{post}")?;
-                first = false;
-            }
-            if named && open && !next {
-                write!(f, "-{post}")?;
-            }
-            open = named;
+        for run in runs {
+            write!(f, " {run}")?;
+        }
+        Ok(())
+    }
+}
+
+impl fmt::Display for Run {
+    fn fmt<W: fmt::Write>(&self, f: &mut fmt::Formatter<W>) -> fmt::Result {
+        write!(f, "{}", self.first)?;
+        if self.last > self.first {
+            write!(f, "-{}", self.last)?;
         }
         Ok(())
     }
@@ -165,23 +170,22 @@ impl fmt::Display for Posts {
 impl fmt::Display for Summary {
     fn fmt<W: fmt::Write>(&self, f: &mut fmt::Formatter<W>) -> fmt::Result {
         let tally = self.tally;
-        let rows = [
-            ("letters", tally.letters()),
-            ("  SEND", u32::from(tally.send)),
-            ("  ACK", u32::from(tally.ack)),
-            ("  DONE", u32::from(tally.done)),
-            ("  SKIP-SHARE", u32::from(tally.skip_share)),
-            ("  SKIP", u32::from(tally.skip)),
-            ("  VIEW-CHANGE", u32::from(tally.view_change)),
-            ("notes", u32::from(tally.notes)),
-            ("damaged", tally.damaged()),
-            ("  text", u32::from(tally.text)),
-            ("  frame", u32::from(tally.frame)),
-            ("lines", tally.lines()),
-        ];
-        for (name, count) in rows {
-            writeln!(f, "{name:<13}  {count:>6}")?;
+        writeln!(f, "{:<13}  {:>6}", "letters", tally.letters())?;
+        for (kind, count) in [
+            (Kind::Send, tally.send),
+            (Kind::Ack, tally.ack),
+            (Kind::Done, tally.done),
+            (Kind::SkipShare, tally.skip_share),
+            (Kind::Skip, tally.skip),
+            (Kind::ViewChange, tally.view_change),
+        ] {
+            writeln!(f, "  {kind:<11}  {count:>6}")?;
         }
+        writeln!(f, "{:<13}  {:>6}", "notes", tally.notes)?;
+        writeln!(f, "{:<13}  {:>6}", "damaged", tally.damaged())?;
+        writeln!(f, "  {:<11}  {:>6}", Layer::Text, tally.text)?;
+        writeln!(f, "  {:<11}  {:>6}", Layer::Frame, tally.frame)?;
+        writeln!(f, "{:<13}  {:>6}", "lines", tally.lines())?;
         if self.more {
             writeln!(f, "Only the first {} lines were read.", tally.lines())?;
         }

@@ -1,4 +1,3 @@
-pub mod Buffers
 pub mod Frames
 pub mod Law
 pub mod Sole

@@ -1,37 +1,34 @@
 -- The layout of a letter's line: the one place where codes, fields, their order and widths stand.
--- A reader must believe: the codes and `parts_of`. `size_at` only names the lengths that follow.
-use Rattle.std.specs.Prelude.{ℕ, cond, List, [], ◌∷◌, ◌==◌}
+-- A reader must believe: `code_at`, `kind_of` and `parts_of`. `size_of` only names the lengths that follow.
+use Rattle.std.specs.Prelude.{ℕ, List, [], ◌∷◌}
 use Rattle.letters.specs.Parts.{Part, byte, short, long, text, Fit}
 use Rattle.letters.specs.declared.letter.Body.{Body}
 use Rattle.letters.specs.declared.letter.Body.TheVariants.{Send, Ack, Done, SkipShare, Skip, ViewChange}
 use Rattle.letters.specs.declared.letter.Letter.{Letter}
+use Rattle.letters.specs.declared.kind.Kind.{Kind}
+use Rattle.letters.specs.declared.kind.Kind.TheVariants as kind
 
 -- the codes, hexadecimal 11 to 16
-abbrev pub send_code : ℕ
-send_code = 17
+abbrev pub code_at : Kind → ℕ
+code_at kind.Send = 17
+code_at kind.Ack = 18
+code_at kind.Done = 19
+code_at kind.SkipShare = 20
+code_at kind.Skip = 21
+code_at kind.ViewChange = 22
 
-abbrev pub ack_code : ℕ
-ack_code = 18
+-- the kind of a letter that says this
+abbrev pub kind_of : Body → Kind
+kind_of (Send k) = kind.Send
+kind_of (Ack k) = kind.Ack
+kind_of (Done k) = kind.Done
+kind_of (SkipShare k) = kind.SkipShare
+kind_of (Skip k) = kind.Skip
+kind_of (ViewChange k) = kind.ViewChange
 
-abbrev pub done_code : ℕ
-done_code = 19
-
-abbrev pub skip_share_code : ℕ
-skip_share_code = 20
-
-abbrev pub skip_code : ℕ
-skip_code = 21
-
-abbrev pub view_change_code : ℕ
-view_change_code = 22
-
+-- its code
 abbrev pub code_of : Body → ℕ
-code_of (Send k) = send_code
-code_of (Ack k) = ack_code
-code_of (Done k) = done_code
-code_of (SkipShare k) = skip_share_code
-code_of (Skip k) = skip_code
-code_of (ViewChange k) = view_change_code
+code_of b = code_at (kind_of b)
 
 -- the fields after the view
 abbrev pub parts_of : Body → List Part
@@ -54,6 +51,11 @@ line_of l = text (frame_of l)
 abbrev pub Fits : Letter → Type 0
 Fits l = Fit (frame_of l)
 
--- how many bytes a frame with this code has, and 0 where no letter has it
-abbrev pub size_at : ℕ → ℕ
-size_at c = cond (c == send_code) 23 (cond (c == ack_code) 14 (cond (c == done_code) 20 (cond (c == skip_share_code) 4 (cond (c == skip_code) 12 (cond (c == view_change_code) 52 0)))))
+-- how many bytes a frame of this kind has
+abbrev pub size_of : Kind → ℕ
+size_of kind.Send = 23
+size_of kind.Ack = 14
+size_of kind.Done = 20
+size_of kind.SkipShare = 4
+size_of kind.Skip = 12
+size_of kind.ViewChange = 52

@@ -1,3 +1,4 @@
 pub mod Parts
 pub mod Layout
+pub mod Kinds
 pub mod Reading

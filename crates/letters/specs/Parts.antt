@@ -1,9 +1,8 @@
 -- A frame is a list of parts, each a number in a fixed count of bytes, the high byte first; its text
 -- has two hexadecimal digits to the byte.
--- A reader must believe: `text` and `Fit`. The records say what a reader and a writer of parts do.
-use Rattle.std.specs.Prelude.{◌≡◌, ℕ, ◌+◌, ◌*◌, ◌^◌, ◌<◌, ◌≤◌, List, [], ◌∷◌, ◌++◌, length, take, drop}
-use Rattle.std.specs.List.{AllByRecursion}
-use Rattle.hexadecimal.specs.Hex.{Hex, digits}
+-- A reader must believe: `text` and `Fit`. `Took` says what a reader of parts does, `after` what a writer does.
+use Rattle.std.specs.Prelude.{◌≡◌, ℕ, ◌+◌, ◌*◌, ◌^◌, ◌<◌, List, [], ◌∷◌, ◌++◌, length}
+use Rattle.hexadecimal.specs.Hex.{digits}
 
 -- how many bytes, and the number
 abbrev pub Part : Type 0
@@ -26,7 +25,7 @@ before (p ∷ ps) rest = digits (2 * p.0) p.1 ++ before ps rest
 abbrev pub text : List Part → List ℕ
 text ps = before ps []
 
--- what is done, and then the text of parts: `done ++ text ps`, in the order in which a pen writes
+-- what is done, and then the text of parts: `done ++ text ps`, in the order in which it is written
 abbrev pub after : List ℕ → List Part → List ℕ
 after done [] = done
 after done (p ∷ ps) = after (done ++ digits (2 * p.0) p.1) ps
@@ -41,21 +40,8 @@ abbrev pub Fit : List Part → Type 0
 Fit [] = Unit {0}
 Fit (p ∷ ps) = (p.1 < 16 ^ (2 * p.0)) × Fit ps
 
--- a text of hexadecimal with at least so many characters
-pub record Has (width : ℕ) (text : List ℕ) : Type 0 where
-  pub hex : AllByRecursion Hex text
-  pub some : width ≤ length text
-
 -- parts were taken off the front of a text
 pub record Took (ps : List Part) (entry exit : List ℕ) : Type 0 where
   pub text : entry ≡ before ps exit
   pub left : length exit + 2 * bytes ps ≡ length entry
-  pub hex : AllByRecursion Hex exit
   pub fits : Fit ps
-
--- parts were written into a buffer at a place, and nothing past them was touched
-pub record Wrote (ps : List Part) (at at' : ℕ) (out out' : List ℕ) : Type 0 where
-  pub moved : at' ≡ at + 2 * bytes ps
-  pub len : length out' ≡ length out
-  pub front : take at' out' ≡ after (take at out) ps
-  pub back : (k : ℕ) → at' ≤ k → drop k out' ≡ drop k out

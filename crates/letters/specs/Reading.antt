@@ -1,6 +1,6 @@
 -- What reading a line as a letter answers, and writing a letter as a line.
 -- A reader must believe: layer 1 comes before layer 2; the reasons of layer 2 and their columns.
-use Rattle.std.specs.Prelude.{◌≡◌, ℕ, ◌+◌, ◌*◌, ◌<◌, ◌≤◌, ◌⊎◌, List, ◌++◌, length, take, drop, Ok, Err, Result, ◌≢◌}
+use Rattle.std.specs.Prelude.{◌≡◌, ℕ, ◌+◌, ◌*◌, ◌<◌, ◌≤◌, ◌⊎◌, List, ◌++◌, length, take, drop, Ok, Err, Result, MatchResult, ◌≢◌}
 use Rattle.hexadecimal.specs.Hex.{digits}
 use Rattle.lines.specs.Damage.{DamagedAt, Sound}
 use Rattle.lines.specs.declared.damage.Damage.{Damage}
@@ -8,51 +8,42 @@ use Rattle.lines.specs.declared.damage.Layer.{Layer}
 use Rattle.lines.specs.declared.damage.Layer.TheVariants.{Text, Frame}
 use Rattle.refusals.specs.declared.Refusal.{Refusal}
 use Rattle.refusals.specs.declared.Refusal.TheVariants.{BufferTooShort}
-use Rattle.letters.specs.Layout.{code_of, line_of, size_at, Fits}
+use Rattle.letters.specs.Layout.{code_at, line_of, size_of, Fits}
+use Rattle.letters.specs.declared.kind.Kind.{Kind}
 use Rattle.letters.specs.declared.letter.Letter.{Letter}
-use Rattle.letters.specs.declared.line.Fault.{Fault}
-use Rattle.letters.specs.declared.line.Fault.TheVariants.{Code, Length}
 
 -- the line begins with this code
 abbrev pub Begins : List ℕ → ℕ → Type 0
 Begins line code = take 2 line ≡ digits 2 code
 
--- no letter has the line's code
+-- no kind of letter has the line's code
 abbrev pub UnknownCode : List ℕ → Type 0
-UnknownCode line = (2 ≤ length line) × ((l : Letter) → Begins line (code_of l.body) → ⊥)
+UnknownCode line = (2 ≤ length line) × ((k : Kind) → Begins line (code_at k) → ⊥)
 
 -- the line is too short for a code, or has another length than letters with its code
 abbrev pub WrongLength : List ℕ → Type 0
-WrongLength line = (length line < 2) ⊎ ((code : ℕ) × (0 < size_at code) × Begins line code × (length line ≢ 2 * size_at code))
+WrongLength line = (length line < 2) ⊎ ((k : Kind) × Begins line (code_at k) × (length line ≢ 2 * size_of k))
 
--- why a sound line is no letter
-abbrev pub Faulty : List ℕ → Fault → Type 0
-Faulty line Code = UnknownCode line
-Faulty line Length = WrongLength line
+-- a sound line is damaged in its frame: an unknown code at the code, a wrong length one past the end
+abbrev pub FrameDamaged : List ℕ → ℕ → Type 0
+FrameDamaged line column = (UnknownCode line × (column ≡ 1)) ⊎ (WrongLength line × (column ≡ length line + 1))
 
--- an unknown code has its own column, a wrong length one past the end
-abbrev pub column_of : Fault → List ℕ → ℕ
-column_of Code line = 1
-column_of Length line = length line + 1
+-- damage in the frame, at this column
+abbrev pub in_frame : ℕ → Damage
+in_frame column = record { layer = Frame; column = column }
 
 -- where a line that is no letter is damaged: in its text, or, where that is sound, in its frame
 abbrev pub DamagedIn : Layer → List ℕ → ℕ → Type 0
 DamagedIn Text line column = DamagedAt line column
-DamagedIn Frame line column = Sound line × ((fault : Fault) × Faulty line fault × (column ≡ column_of fault line))
+DamagedIn Frame line column = Sound line × FrameDamaged line column
 
 -- this is the line of this letter
 abbrev pub IsLine : List ℕ → Letter → Type 0
 IsLine line l = (line ≡ line_of l) × Fits l
 
--- what cutting a sound line answers
-abbrev pub Cut : List ℕ → Result Letter Fault → Type 0
-Cut line (Ok l) = IsLine line l
-Cut line (Err fault) = Faulty line fault
-
 -- what reading a line answers: the letter whose line it is, or where it is damaged
 abbrev pub Read : List ℕ → Result Letter Damage → Type 0
-Read line (Ok l) = IsLine line l
-Read line (Err d) = DamagedIn d.layer line d.column
+Read line r = MatchResult r (IsLine line) (λ d. DamagedIn d.layer line d.column)
 
 -- the rule leaves no choice: no other answer meets it
 abbrev pub Sole : List ℕ → Result Letter Damage → Type 0

@@ -5,7 +5,8 @@ ghost use Rattle.std.proofs.Common.{rules};
 use crate::letter::Letter;
 use masks::senders::Entry;
 
-// A letter comes from its sender, and is on the code of its kind and its view.
+// A letter comes from its sender, and is on the code of its kind and its view. The code and no Kind: who
+// asks may name any byte.
 impl Entry for Letter {
     type Matter = (u8, u16);
 

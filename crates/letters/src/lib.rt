@@ -1,9 +1,9 @@
 // Letters as lines: six kinds, one layout, one cutter and one writer.
 #![tactic(auto)]
 
+mod body;
 pub mod entry;
-mod fields;
-mod kind;
+mod field;
+pub mod kind;
 pub mod letter;
 pub mod line;
-mod pen;

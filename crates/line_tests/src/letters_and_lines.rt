@@ -16,102 +16,70 @@ fn both_ways(rt: &impl Abort, letter: Letter, line: &[u8]) -> Result<(), Fail> {
     Ok(())
 }
 
+fn holding(edition: u64, mask: u64) -> Holding {
+    Holding { edition, mask }
+}
+
 #[test]
 fn six_kinds(rt: HostRuntime) -> Result<(), Fail> {
-    let send = Body::Send(Send {
+    let send = Send {
         step: 1,
         edition: 98,
         key_view: 1,
         mask: 7,
-    });
-    both_ways(
-        &rt,
-        Letter {
-            sender: 3,
-            view: 2,
-            body: send,
-        },
-        b"1103000201000000000000006200010000000000000007",
-    )?;
-    let ack = Body::Ack(Ack {
+    };
+    let ack = Ack {
         lead: 0,
         step: 4,
         edition: 98,
-    });
-    both_ways(
-        &rt,
-        Letter {
-            sender: 1,
-            view: 1,
-            body: ack,
-        },
-        b"1201000100040000000000000062",
-    )?;
-    let done = Body::Done(Done {
+    };
+    let done = Done {
         edition: 195,
         mask: 0x8000_0000_0000_000b,
-    });
-    both_ways(
-        &rt,
-        Letter {
-            sender: 63,
-            view: 1000,
-            body: done,
-        },
-        b"133f03e800000000000000c3800000000000000b",
-    )?;
-    both_ways(
-        &rt,
-        Letter {
-            sender: 2,
-            view: 1,
-            body: Body::SkipShare(SkipShare),
-        },
-        b"14020001",
-    )?;
-    both_ways(
-        &rt,
-        Letter {
-            sender: 255,
-            view: 65_535,
-            body: Body::Skip(Skip { mask: u64::MAX }),
-        },
-        b"15ffffffffffffffffffffff",
-    )?;
-    both_ways(
-        &rt,
-        Letter {
-            sender: 1,
-            view: 1,
-            body: Body::Skip(Skip { mask: 7 }),
-        },
-        b"150100010000000000000007",
-    )?;
-    let held = Holding {
-        edition: 98,
-        mask: 7,
     };
-    let none = Holding {
-        edition: 0,
-        mask: 0,
+    let change = ViewChange {
+        key: holding(98, 7),
+        lock: holding(98, 11),
+        commit: holding(0, 0),
     };
-    let change = Body::ViewChange(ViewChange {
-        key: held,
-        lock: Holding {
-            edition: 98,
-            mask: 11,
-        },
-        commit: none,
-    });
-    both_ways(
-        &rt,
-        Letter {
-            sender: 0,
-            view: 1,
-            body: change,
-        },
-        b"16000001000000000000006200000000000000070000000000000062000000000000000b00000000000000000000000000000000",
-    )
+    let examples: [(u8, u16, Body, &[u8]); 7] = [
+        (
+            3,
+            2,
+            Body::Send(send),
+            b"1103000201000000000000006200010000000000000007",
+        ),
+        (1, 1, Body::Ack(ack), b"1201000100040000000000000062"),
+        (
+            63,
+            1000,
+            Body::Done(done),
+            b"133f03e800000000000000c3800000000000000b",
+        ),
+        (2, 1, Body::SkipShare(SkipShare), b"14020001"),
+        (
+            255,
+            65_535,
+            Body::Skip(Skip { mask: u64::MAX }),
+            b"15ffffffffffffffffffffff",
+        ),
+        (
+            1,
+            1,
+            Body::Skip(Skip { mask: 7 }),
+            b"150100010000000000000007",
+        ),
+        (
+            0,
+            1,
+            Body::ViewChange(change),
+            b"16000001000000000000006200000000000000070000000000000062000000000000000b00000000000000000000000000000000",
+        ),
+    ];
+    for (sender, view, body, line) in examples {
+        both_ways(&rt, Letter { sender, view, body }, line)?;
+    }
+    Ok(())
 }
 
 fn damaged(rt: &impl Abort, line: &[u8], layer: Layer, column: u16) {

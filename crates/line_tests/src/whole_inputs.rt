@@ -23,29 +23,23 @@ fn looked_at(line: Line) -> Seen {
 
 // The reader hands out these lines and no more.
 fn reads(rt: &impl Abort, input: &[u8], wanted: &[Seen]) {
-    let mut count = 0usize;
-    for line in Reader::new(input) {
-        assert_eq!(rt; wanted.get(count).copied(), Some(looked_at(line)));
-        count = count.saturating_add(1);
-    }
-    assert_eq!(rt; count, wanted.len());
+    let seen = Reader::new(input).map(looked_at);
+    assert!(rt; seen.eq(wanted.iter().copied()));
 }
 
 // The intake hands out these lines and no more.
 fn takes(rt: &impl Abort, input: &[u8], wanted: &[Seen]) {
     let mut intake = Intake::new();
-    let mut count = 0usize;
+    let mut wanted = wanted.iter().copied();
     for byte in input {
         if intake.push(*byte) == Progress::Ended {
-            assert_eq!(rt; wanted.get(count).copied(), Some(looked_at(intake.line())));
-            count = count.saturating_add(1);
+            assert_eq!(rt; wanted.next(), Some(looked_at(intake.line())));
         }
     }
     if intake.is_open() {
-        assert_eq!(rt; wanted.get(count).copied(), Some(looked_at(intake.line())));
-        count = count.saturating_add(1);
+        assert_eq!(rt; wanted.next(), Some(looked_at(intake.line())));
     }
-    assert_eq!(rt; count, wanted.len());
+    assert_eq!(rt; wanted.next(), None);
 }
 
 fn lists(rt: &impl Abort, input: &[u8], wanted: &[Seen]) {
@@ -101,24 +95,17 @@ fn long_lines(rt: HostRuntime) {
 #[test]
 fn at_most_65535_lines(rt: HostRuntime) -> Result<(), Fail> {
     let input = vec![in rt.alloc(); b'\n'; 65_537]?;
-    let mut count = 0u32;
-    for line in Reader::new(input.as_slice()) {
-        count = count.saturating_add(1);
-        assert_eq!(rt; u32::from(line.number()), count);
-    }
-    assert_eq!(rt; count, 65_535);
+    let numbers = Reader::new(input.as_slice()).map(|line| line.number());
+    assert!(rt; numbers.eq(1..=65_535));
     let mut intake = Intake::new();
-    let mut ended = 0u32;
-    let mut past = 0u32;
-    for byte in input.as_slice() {
-        match intake.push(*byte) {
-            Progress::Inside => {}
-            Progress::Ended => ended = ended.saturating_add(1),
-            Progress::Past => past = past.saturating_add(1),
-        }
-    }
-    assert_eq!(rt; ended, 65_535);
-    assert_eq!(rt; past, 2);
+    let (lines, more) = input.split_at(65_535);
+    assert!(rt;
+        lines
+            .iter()
+            .all(|byte| intake.push(*byte) == Progress::Ended)
+    );
+    assert_eq!(rt; more.len(), 2);
+    assert!(rt; more.iter().all(|byte| intake.push(*byte) == Progress::Past));
     Ok(())
 }
 

@@ -1,29 +1,43 @@
 -- Where a line ends. Assumes nothing.
-use Rattle.std.proofs.Common.{◌≡◌, ℕ, zero, suc, ◌<◌, Bool, true, false, cond, eqb, List, [], ◌∷◌, length, get_or, take, drop, sym, refl, ap, ◌∙◌, inl, inr, ⊎_elim, arith}
-use Rattle.std.proofs.lemmas.Bool.{eq-eqb, ne_eqb, cond-true, cond-false, eqb-true, eqb-false}
+use Rattle.std.proofs.Common.{◌≡◌, ℕ, suc, ◌+◌, ◌≤◌, Bool, true, false, cond, not, eqb, Some, None, List, [], ◌∷◌, length, take, drop, refl, ap, ◌∙◌, inl, inr, ⊎_elim, arith, sym}
+use Rattle.std.specs.Prelude.{◌==◌, position}
+use Rattle.std.specs.List.{position_or_len}
+use Rattle.std.proofs.lemmas.List.{take_all, drop_all}
+use Rattle.std.proofs.lemmas.Bool.{eqb-true, eqb-false, ltb-false}
 use Rattle.lines.specs.Lines.{first_line, after_line, RunsTo}
 
--- the first 0a of an input stands at i
-abbrev EndsAt : List ℕ → ℕ → Type 0
-EndsAt xs i = ((k : ℕ) → k < i → get_or xs k 0 ≡ 10 → ⊥) × (i < length xs) × (get_or xs i 0 ≡ 10)
+-- the bytes in front of the first 0a
+abbrev ahead : List ℕ → ℕ
+ahead = position_or_len (λ b. b == 10)
 
-pub ends_at : (xs : List ℕ) (i : ℕ) → EndsAt xs i → (take i xs ≡ first_line xs) × (drop (suc i) xs ≡ after_line xs)
-ends_at [] i h = absurd (omega (arith, h.1))
-ends_at (b ∷ bs) zero h =
-    let e = eq-eqb b 10 h.2 in
-    (sym (cond-true _ _ _ e), sym (cond-true _ _ _ e))
-ends_at (b ∷ bs) (suc i) h =
-    let e = ne_eqb b 10 (h.0 0 (omega arith)) in
-    let r = ends_at bs i (λ k l. h.0 (suc k) (omega arith), omega (arith, h.1), h.2) in
-    (ap (λ l. b ∷ l) r.0 ∙ sym (cond-false _ _ _ e), r.1 ∙ sym (cond-false _ _ _ e))
+-- an input is cut around its first 0a
+abbrev CutAt : List ℕ → ℕ → List ℕ → List ℕ → Type 0
+CutAt xs i line rest = (take i xs ≡ line) × (drop (suc i) xs ≡ rest)
+
+cut_at : (b : ℕ) (bs : List ℕ) (here : Bool) → CutAt bs (ahead bs) (first_line bs) (after_line bs) → CutAt (b ∷ bs) (cond (not here) (1 + ahead bs) 0) (cond here [] (b ∷ first_line bs)) (cond here bs (after_line bs))
+cut_at b bs true r = (refl, refl)
+cut_at b bs false r = let is : 1 + ahead bs ≡ suc (ahead bs) = omega arith in rw is (ap (λ l. b ∷ l) r.0, r.1)
+
+cut : (xs : List ℕ) → CutAt xs (ahead xs) (first_line xs) (after_line xs)
+cut [] = (refl, refl)
+cut (b ∷ bs) = cut_at b bs (b == 10) (cut bs)
+
+place_is : (here : Bool) (n i : ℕ) → Some i ≡ cond here (Some n) None → i ≡ n
+place_is true n i e = cc
+place_is false n i e = cc
+
+no_place : (here : Bool) (n : ℕ) → None ≡ cond here (Some n) None → here ≡ false
+no_place true n e = cc
+no_place false n e = refl
+
+pub ended : (xs : List ℕ) (i : ℕ) → Some i ≡ position (λ b. b == 10) xs → CutAt xs i (first_line xs) (after_line xs)
+ended xs i e = let is : i ≡ ahead xs = place_is _ _ i e in rw is (cut xs)
 
 -- an input without a 0a is one line
-pub no_end : (xs : List ℕ) → ((k : ℕ) → k < length xs → get_or xs k 0 ≡ 10 → ⊥) → (xs ≡ first_line xs) × ([] ≡ after_line xs)
-no_end [] h = (refl, refl)
-no_end (b ∷ bs) h =
-    let e = ne_eqb b 10 (h 0 (omega arith)) in
-    let r = no_end bs (λ k l. h (suc k) (omega arith)) in
-    (ap (λ l. b ∷ l) r.0 ∙ sym (cond-false _ _ _ e), r.1 ∙ sym (cond-false _ _ _ e))
+pub whole : (xs : List ℕ) → None ≡ position (λ b. b == 10) xs → (xs ≡ first_line xs) × ([] ≡ after_line xs)
+whole xs e =
+    let long : length xs ≤ ahead xs = ltb-false (ahead xs) (length xs) (no_place _ _ e) in
+    (sym (take_all (ahead xs) xs long) ∙ (cut xs).0, sym (drop_all (suc (ahead xs)) xs (omega arith)) ∙ (cut xs).1)
 
 -- one byte more in front, where it ends the line or not
 runs_at : (b : ℕ) (bs : List ℕ) (here : Bool) → eqb b 10 ≡ here → RunsTo bs (first_line bs) (after_line bs) → RunsTo (b ∷ bs) (cond here [] (b ∷ first_line bs)) (cond here bs (after_line bs))

@@ -1,7 +1,10 @@
--- Layer 1: where the text of a line is damaged.
--- A reader must believe: the three reasons, and that the least column counts.
-use Rattle.std.specs.Prelude.{◌≡◌, ℕ, ◌+◌, ◌%◌, ◌<◌, ◌≤◌, Bool, true, false, ◌⊎◌, List, length, take, nat_lt, slice_index}
+-- The two layers by number and name, and layer 1: where the text of a line is damaged.
+-- A reader must believe: the three reasons, that the least column counts, `Fronts`, and the words of a
+-- damage.
+use Rattle.std.specs.Prelude.{◌≡◌, ℕ, ◌+◌, ◌%◌, ◌<◌, ◌≤◌, Bool, true, false, ◌⊎◌, List, ◌++◌, length, take, codes, nat_lt, slice_index}
 use Rattle.hexadecimal.specs.Hex.{Hex}
+use Rattle.std.specs.Fmt.{decimal}
+use Rattle.lines.specs.declared.damage.Damage.{Damage}
 use Rattle.lines.specs.declared.damage.Layer.{Layer}
 use Rattle.lines.specs.declared.damage.Layer.TheVariants.{Text, Frame}
 
@@ -9,6 +12,15 @@ use Rattle.lines.specs.declared.damage.Layer.TheVariants.{Text, Frame}
 abbrev pub layer_number : Layer → ℕ
 layer_number Text = 1
 layer_number Frame = 2
+
+-- its name
+abbrev pub layer_word : Layer → List ℕ
+layer_word Text = codes "text"
+layer_word Frame = codes "frame"
+
+-- a damage in words
+abbrev pub damage_text : Damage → List ℕ
+damage_text damage = codes "layer " ++ decimal (layer_number damage.layer) ++ codes " (" ++ layer_word damage.layer ++ codes "), column " ++ decimal damage.column
 
 -- a character that is not hexadecimal stands at this column, counted from 1
 abbrev pub Wrong : List ℕ → ℕ → Type 0

@@ -1,6 +1,9 @@
-// Where a line is damaged. Layer 1 is its text, which is judged here; layer 2 is its frame.
-ghost use Rattle.std.specs.Prelude.{◌≡◌, ℕ, ◌≤◌, length, MatchOption};
-ghost use Rattle.lines.specs.Damage.{DamagedAt, Fronts, FrontApplies, FrontDamagedAt, Sound, layer_number};
+// Where a line is damaged. Layer 1 is its text, layer 2 its frame.
+ghost use Rattle.std.specs.Prelude.{◌≡◌, MatchOption, Some};
+ghost use Rattle.lines.specs.Damage.{DamagedAt, Sound, damage_text, layer_number, layer_word};
+
+use crate::sound::SoundText;
+use std::fmt;
 
 // The most characters a line has.
 pub const LONGEST: usize = 512;
@@ -8,8 +11,8 @@ pub const LONGEST: usize = 512;
 // The layer of a line in which damage is found: its text is judged before its frame.
 #[derive(Clone, Copy, Debug, PartialEq, Eq)]
 pub enum Layer {
-    Text,
-    Frame,
+    Text = 1,
+    Frame = 2,
 }
 
 impl Layer {
@@ -17,10 +20,18 @@ impl Layer {
     pub fn number(self) -> u8
         ensures { result ≡ layer_number self }
     {
-        match self {
-            Layer::Text => 1,
-            Layer::Frame => 2,
-        }
+        self as u8
+    }
+}
+
+impl fmt::Display for Layer {
+    ghost output = { λ layer. Some (layer_word layer) };
+
+    fn fmt<W: fmt::Write>(&self, f: &mut fmt::Formatter<W>) -> fmt::Result {
+        f.pad(match self {
+            Layer::Text => "text",
+            Layer::Frame => "frame",
+        })
     }
 }
 
@@ -31,38 +42,21 @@ pub struct Damage {
     pub column: u16,
 }
 
-// The column at which a text is damaged: `front` is its first 512 characters, and `longer` says that
-// it has more.
-pub(crate) fn front_column(front: &[u8], longer: bool) -> Option<u16>
-    requires { length front.now ≤ 512 }
-    ensures { MatchOption result ((column : ℕ) → FrontApplies front.now longer column → ⊥) (λ column. FrontDamagedAt front.now longer column) }
-{
-    for (i, byte) in front.iter().enumerate() {
-        if hexadecimal::value(*byte).is_none() {
-            return Some(i as u16 + 1);
-        }
-    }
-    if longer {
-        return Some(513);
-    }
-    if front.len() % 2 == 1 {
-        return Some(front.len() as u16 + 1);
-    }
-    None
-}
+impl fmt::Display for Damage {
+    ghost output = { λ damage. Some (damage_text damage) };
 
-// The first 512 characters of a line, and whether it has more.
-pub(crate) fn front(line: &[u8]) -> (&[u8], bool)
-    ensures seen { Fronts result.0.now result.1 line.now }
-    ensures few { length result.0.now ≤ 512 }
-{
-    (&line[0..line.len().min(LONGEST)], line.len() > LONGEST)
+    fn fmt<W: fmt::Write>(&self, f: &mut fmt::Formatter<W>) -> fmt::Result {
+        let number = self.layer.number();
+        write!(f, "layer {number} ({}), column {}", self.layer, self.column)
+    }
 }
 
 // The least column at which a line's text is damaged, if any is.
 pub fn text_column(line: &[u8]) -> Option<u16>
     ensures { MatchOption result (Sound line.now) (λ column. DamagedAt line.now column) }
 {
-    let (front, longer) = front(line);
-    front_column(front, longer)
+    match SoundText::try_from(line) {
+        Ok(_) => None,
+        Err(damage) => Some(damage.column),
+    }
 }

@@ -3,4 +3,6 @@
 
 pub mod buffer;
 pub mod damage;
+mod front;
 pub mod line;
+pub mod sound;

@@ -1,13 +1,13 @@
 // One line: where it ends, and what it is.
-ghost use Rattle.std.specs.Prelude.{◌≡◌, ℕ, ◌<◌, ◌≤◌, List, length, Decides, ◌≢◌, slice_index};
-ghost use Rattle.lines.specs.Damage.{Fronts};
+ghost use Rattle.std.specs.Prelude.{◌≡◌, ◌==◌, Decides, position};
 ghost use Rattle.lines.specs.Judged.{IsNote, Judged, number_of};
 ghost use Rattle.lines.specs.Lines.{RunsTo, after_line, first_line};
 
-use crate::damage::{front, front_column};
+use crate::front::Front;
 
 // A line of an input: its number, counted from 1, and the part of the input it lies in. A note is a
-// comment, a frame is sound hexadecimal, and any other line is damaged in its text at a column.
+// comment, a frame is sound hexadecimal, and any other line is damaged in its text at a column. A frame
+// has a plain part and no SoundText: whoever hands a line over may have made it.
 #[derive(Clone, Copy, Debug)]
 pub enum Line<'a> {
     Note {
@@ -25,18 +25,11 @@ pub enum Line<'a> {
     },
 }
 
-// Where the first line of an input ends: at its first 0a, or at the input's end.
-fn line_end(input: &[u8]) -> usize
-    ensures within { result ≤ length input.now }
-    ensures before { (k : ℕ) → k < result → slice_index input.now k ≢ 10 }
-    ensures found { result < length input.now → slice_index input.now result ≡ 10 }
+// Where the first line of an input ends, if byte 0a ends it.
+fn line_end(input: &[u8]) -> Option<usize>
+    ensures { result ≡ position (λ byte. byte == 10) input.now }
 {
-    for (i, byte) in input.iter().enumerate() {
-        if *byte == b'\n' {
-            return i;
-        }
-    }
-    input.len()
+    input.iter().position(|byte| *byte == b'\n')
 }
 
 // The first line of an input, up to byte 0a or the end, and what follows it.
@@ -45,14 +38,14 @@ pub fn first_line(input: &[u8]) -> (&[u8], &[u8])
     ensures rest { result.1.now ≡ after_line input.now }
     ensures rule { RunsTo input.now result.0.now result.1.now }
 {
-    let end = line_end(input);
-    if end == input.len() {
-        return (input, &[]);
+    match line_end(input) {
+        Some(end) => (&input[..end], &input[end + 1..]),
+        None => (input, &[]),
     }
-    (&input[0..end], &input[end + 1..])
 }
 
-fn is_note(text: &[u8]) -> bool
+// A note is empty, or starts with a semicolon.
+pub(crate) fn is_note(text: &[u8]) -> bool
     ensures { Decides result (IsNote text.now) }
 {
     match text {
@@ -61,44 +54,12 @@ fn is_note(text: &[u8]) -> bool
     }
 }
 
-// What a line is: `front` is its first 512 characters, and `longer` says that it has more.
-pub(crate) fn judge(number: u16, front: &[u8], longer: bool) -> Line<'_>
-    requires { length front.now ≤ 512 }
-    ensures { (line : List ℕ) → Fronts front.now longer line → Judged line number result }
-{
-    if is_note(front) {
-        if longer {
-            return Line::Damaged {
-                number,
-                column: 513,
-                part: front,
-            };
-        }
-        return Line::Note {
-            number,
-            part: front,
-        };
-    }
-    match front_column(front, longer) {
-        Some(column) => Line::Damaged {
-            number,
-            column,
-            part: front,
-        },
-        None => Line::Frame {
-            number,
-            part: front,
-        },
-    }
-}
-
 impl<'a> Line<'a> {
     // What the line with this number and text is.
     pub fn of(number: u16, text: &'a [u8]) -> Line<'a>
         ensures { Judged text.now number result }
     {
-        let (front, longer) = front(text);
-        judge(number, front, longer)
+        Front::of(text).judge(number)
     }
 
     // The number of the line.
@@ -106,9 +67,8 @@ impl<'a> Line<'a> {
         ensures { result ≡ number_of self.now }
     {
         match self {
-            Line::Note { number, .. } => *number,
-            Line::Frame { number, .. } => *number,
-            Line::Damaged { number, .. } => *number,
+            Line::Note { number, .. } | Line::Frame { number, .. } | Line::Damaged { number, .. } =>
+                *number,
         }
     }
 }

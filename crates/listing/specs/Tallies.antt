@@ -1,28 +1,26 @@
 -- What a tally counts: of each sort, how many entries there were.
 -- A reader must believe: `Tallies`, each count beside the test for its sort.
 use Rattle.std.specs.Prelude.{◌≡◌, ℕ, ◌+◌, ◌<◌, ◌≤◌, Bool, true, false, cond, List, [], ◌∷◌, ◌++◌, length, ◌==◌}
+use Rattle.std.specs.List.{count_by}
 use Rattle.lines.specs.declared.damage.Layer.{Layer}
 use Rattle.lines.specs.declared.damage.Layer.TheVariants.{Text, Frame}
-use Rattle.letters.specs.Layout.{ack_code, code_of, done_code, send_code, skip_code, skip_share_code, view_change_code}
+use Rattle.letters.specs.Layout.{code_at, code_of}
+use Rattle.letters.specs.declared.kind.Kind.{Kind}
+use Rattle.letters.specs.declared.kind.Kind.TheVariants as kind
 use Rattle.listing.specs.declared.entry.Entry.{Entry}
 use Rattle.listing.specs.declared.entry.Entry.TheVariants.{Note, Letter, Damaged}
 use Rattle.listing.specs.declared.tally.Tally.{Tally}
-
--- how many entries of a list pass a test
-abbrev pub how_many : (Entry → Bool) → List Entry → ℕ
-how_many p [] = 0
-how_many p (e ∷ es) = cond (p e) 1 0 + how_many p es
 
 abbrev pub is_note : Entry → Bool
 is_note Note = true
 is_note (Letter l) = false
 is_note (Damaged d) = false
 
--- a letter with this code
-abbrev pub is_letter : ℕ → Entry → Bool
-is_letter code Note = false
-is_letter code (Letter l) = code_of l.body == code
-is_letter code (Damaged d) = false
+-- a letter of this kind
+abbrev pub is_letter : Kind → Entry → Bool
+is_letter k Note = false
+is_letter k (Letter l) = code_of l.body == code_at k
+is_letter k (Damaged d) = false
 
 abbrev pub in_text : Layer → Bool
 in_text Text = true
@@ -48,12 +46,12 @@ lines_in t = letters_in t + t.notes + t.text + t.frame
 
 -- one entry more: its sort's count is one higher, every other stays
 pub record Adds (e : Entry) (t t' : Tally) : Type 0 where
-  pub send : t'.send ≡ t.send + cond (is_letter send_code e) 1 0
-  pub ack : t'.ack ≡ t.ack + cond (is_letter ack_code e) 1 0
-  pub done : t'.done ≡ t.done + cond (is_letter done_code e) 1 0
-  pub skip_share : t'.skip_share ≡ t.skip_share + cond (is_letter skip_share_code e) 1 0
-  pub skip : t'.skip ≡ t.skip + cond (is_letter skip_code e) 1 0
-  pub view_change : t'.view_change ≡ t.view_change + cond (is_letter view_change_code e) 1 0
+  pub send : t'.send ≡ t.send + cond (is_letter kind.Send e) 1 0
+  pub ack : t'.ack ≡ t.ack + cond (is_letter kind.Ack e) 1 0
+  pub done : t'.done ≡ t.done + cond (is_letter kind.Done e) 1 0
+  pub skip_share : t'.skip_share ≡ t.skip_share + cond (is_letter kind.SkipShare e) 1 0
+  pub skip : t'.skip ≡ t.skip + cond (is_letter kind.Skip e) 1 0
+  pub view_change : t'.view_change ≡ t.view_change + cond (is_letter kind.ViewChange e) 1 0
   pub notes : t'.notes ≡ t.notes + cond (is_note e) 1 0
   pub text : t'.text ≡ t.text + cond (is_damaged in_text e) 1 0
   pub frame : t'.frame ≡ t.frame + cond (is_damaged in_frame e) 1 0
@@ -61,15 +59,15 @@ pub record Adds (e : Entry) (t t' : Tally) : Type 0 where
 
 -- each count is that of its sort, and every entry is counted once
 pub record Tallies (es : List Entry) (t : Tally) : Type 0 where
-  pub send : t.send ≡ how_many (is_letter send_code) es
-  pub ack : t.ack ≡ how_many (is_letter ack_code) es
-  pub done : t.done ≡ how_many (is_letter done_code) es
-  pub skip_share : t.skip_share ≡ how_many (is_letter skip_share_code) es
-  pub skip : t.skip ≡ how_many (is_letter skip_code) es
-  pub view_change : t.view_change ≡ how_many (is_letter view_change_code) es
-  pub notes : t.notes ≡ how_many is_note es
-  pub text : t.text ≡ how_many (is_damaged in_text) es
-  pub frame : t.frame ≡ how_many (is_damaged in_frame) es
+  pub send : t.send ≡ count_by (is_letter kind.Send) es
+  pub ack : t.ack ≡ count_by (is_letter kind.Ack) es
+  pub done : t.done ≡ count_by (is_letter kind.Done) es
+  pub skip_share : t.skip_share ≡ count_by (is_letter kind.SkipShare) es
+  pub skip : t.skip ≡ count_by (is_letter kind.Skip) es
+  pub view_change : t.view_change ≡ count_by (is_letter kind.ViewChange) es
+  pub notes : t.notes ≡ count_by is_note es
+  pub text : t.text ≡ count_by (is_damaged in_text) es
+  pub frame : t.frame ≡ count_by (is_damaged in_frame) es
   pub all : lines_in t ≡ length es
 
 -- counting an entry, and whether it was counted: a tally of 65,535 lines takes no more and stays as it is

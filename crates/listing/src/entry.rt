@@ -16,7 +16,8 @@ pub enum Entry {
 }
 
 impl Entry {
-    // The entry of a line, read through both layers.
+    // The entry of a line, read through both layers. A function and no From, so that its two promises
+    // have names.
     pub fn of(line: Line) -> Entry
         ensures line { Comes line.entry result }
         ensures text { (text : List ℕ) (n : ℕ) → Judged text n line.entry → Entered text result }

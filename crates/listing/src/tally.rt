@@ -3,12 +3,12 @@ ghost use Rattle.std.specs.Prelude.{◌≡◌, ◌+◌, ◌<◌, []};
 ghost use Rattle.listing.specs.Tallies.{Adds, Counted, Tallies, letters_in, lines_in};
 
 use crate::entry::Entry;
-use letters::letter::Body;
+use letters::kind::Kind;
 use lines::damage::Layer;
 use reader::input::LAST;
 
 // Letters by kind, notes, and lines damaged in their text or in their frame.
-#[derive(Clone, Copy)]
+#[derive(Clone, Copy, Default)]
 pub struct Tally {
     pub send: u16,
     pub ack: u16,
@@ -26,17 +26,7 @@ impl Tally {
     pub fn new() -> Tally
         ensures { Tallies [] result }
     {
-        Tally {
-            send: 0,
-            ack: 0,
-            done: 0,
-            skip_share: 0,
-            skip: 0,
-            view_change: 0,
-            notes: 0,
-            text: 0,
-            frame: 0,
-        }
+        Tally::default()
     }
 
     // How many letters were counted.
@@ -65,51 +55,24 @@ impl Tally {
         self.letters() + u32::from(self.notes) + u32::from(self.text) + u32::from(self.frame)
     }
 
-    // The tally with one entry more.
-    fn with(self, entry: Entry) -> Tally
-        requires { lines_in self < 65535 }
-        ensures { Adds entry self result }
+    // One entry more.
+    fn add(&mut self, entry: Entry)
+        requires { lines_in self.old < 65535 }
+        ensures { Adds entry self.old self.new }
     {
         match entry {
-            Entry::Note => Tally {
-                notes: self.notes + 1,
-                ..self
-            },
-            Entry::Letter(letter) => match letter.body {
-                Body::Send(_) => Tally {
-                    send: self.send + 1,
-                    ..self
-                },
-                Body::Ack(_) => Tally {
-                    ack: self.ack + 1,
-                    ..self
-                },
-                Body::Done(_) => Tally {
-                    done: self.done + 1,
-                    ..self
-                },
-                Body::SkipShare(_) => Tally {
-                    skip_share: self.skip_share + 1,
-                    ..self
-                },
-                Body::Skip(_) => Tally {
-                    skip: self.skip + 1,
-                    ..self
-                },
-                Body::ViewChange(_) => Tally {
-                    view_change: self.view_change + 1,
-                    ..self
-                },
+            Entry::Note => self.notes += 1,
+            Entry::Letter(letter) => match letter.body.kind() {
+                Kind::Send => self.send += 1,
+                Kind::Ack => self.ack += 1,
+                Kind::Done => self.done += 1,
+                Kind::SkipShare => self.skip_share += 1,
+                Kind::Skip => self.skip += 1,
+                Kind::ViewChange => self.view_change += 1,
             },
             Entry::Damaged(damage) => match damage.layer {
-                Layer::Text => Tally {
-                    text: self.text + 1,
-                    ..self
-                },
-                Layer::Frame => Tally {
-                    frame: self.frame + 1,
-                    ..self
-                },
+                Layer::Text => self.text += 1,
+                Layer::Frame => self.frame += 1,
             },
         }
     }
@@ -121,7 +84,7 @@ impl Tally {
         if self.lines() >= u32::from(LAST) {
             return false;
         }
-        *self = self.with(entry);
+        self.add(entry);
         true
     }
 }

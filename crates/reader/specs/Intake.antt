@@ -2,8 +2,9 @@
 -- A reader must believe: `Last` and the two cases of `CameAs`, and the three cases of `Did`.
 use Rattle.std.specs.Prelude.{◌≡◌, ℕ, zero, suc, ◌+◌, ◌<◌, Bool, true, false, ◌⊎◌, List, [], length, ◌≢◌}
 use Rattle.std.specs.List.{ContainsAt}
-use Rattle.lines.specs.Buffer.{Kept}
+use Rattle.lines.specs.Buffer.{Holds}
 use Rattle.lines.specs.Lines.{rest_after, line_after}
+use Rattle.lines.specs.declared.buffer.LineBuffer.{LineBuffer}
 use Rattle.reader.specs.declared.intake.Intake.{Intake}
 use Rattle.reader.specs.declared.intake.Progress.{Progress}
 use Rattle.reader.specs.declared.intake.Progress.TheVariants.{Inside, Ended, Past}
@@ -15,19 +16,19 @@ Stands input k true = (0 < length (rest_after k input)) × (ContainsAt (rest_aft
 Stands input k false = ContainsAt (rest_after k input) 10 × ((rest_after (suc k) input ≡ []) ⊎ (suc k ≡ 65535))
 
 -- the line that has k lines before it came in last, and the buffer holds it
-pub record Last (input places : List ℕ) (count k : ℕ) (opened : Bool) : Type 0 where
+pub record Last (input : List ℕ) (buffer : LineBuffer) (k : ℕ) (opened : Bool) : Type 0 where
   pub few : k < 65535
   pub whole : (j : ℕ) → j < k → ContainsAt (rest_after j input) 10
-  pub held : Kept places count (line_after k input)
+  pub held : Holds buffer (line_after k input)
   pub stands : Stands input k opened
 
 -- this input came in: nothing, or a last line, whose number counts it too
-abbrev pub CameAs : List ℕ → List ℕ → ℕ → ℕ → Bool → Type 0
-CameAs input places count zero opened = (input ≡ []) × (opened ≡ false)
-CameAs input places count (suc k) opened = Last input places count k opened
+abbrev pub CameAs : List ℕ → LineBuffer → ℕ → Bool → Type 0
+CameAs input buffer zero opened = (input ≡ []) × (opened ≡ false)
+CameAs input buffer (suc k) opened = Last input buffer k opened
 
 abbrev pub Came : List ℕ → Intake → Type 0
-Came input s = CameAs input s.line.places s.line.count s.number s.open
+Came input s = CameAs input s.line s.number s.open
 
 -- a line takes the next byte: the one that is open, or a new one
 abbrev pub Room : Bool → ℕ → Type 0

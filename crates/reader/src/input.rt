@@ -9,7 +9,8 @@ use lines::line::{Line, first_line};
 // The most lines that are read of an input.
 pub const LAST: u16 = 65_535;
 
-// A reader has handed out the first `number` lines of its input, and `rest` follows them.
+// A reader has handed out the first `number` lines of its input, and `rest` follows them. The contracts
+// name each line by the whole input, so it stays a field: a ghost field holds a fact, and no value.
 #[derive(Drop)]
 pub struct Reader<'a> {
     input: &'a [u8],

@@ -20,7 +20,8 @@ pub enum Progress {
     Past,
 }
 
-// The line that came in last, its number, and whether it is open: begun and not ended.
+// The line that came in last, its number, and whether it is open: begun and not ended. The line has its
+// number open or ended, so an enum of both states would hold it twice and be no plainer.
 #[derive(Drop)]
 pub struct Intake {
     line: LineBuffer,

@@ -7,8 +7,8 @@ use Rattle.refusals.specs.declared.Refusal.{Refusal}
 use Rattle.refusals.specs.declared.Refusal.TheVariants.{Malformed, NoSuchLetter, RollFull}
 use Rattle.masks.specs.Senders.{Senders}
 use Rattle.council.specs.Statements.{last_view}
-use Rattle.letters.specs.Layout.{code_of}
-use Rattle.letters.specs.declared.letter.Body.{Body}
+use Rattle.letters.specs.Layout.{code_at, code_of}
+use Rattle.letters.specs.declared.kind.Kind.{Kind}
 use Rattle.letters.specs.declared.letter.Letter.{Letter}
 use Rattle.rolls.specs.declared.roll.Roll.{Roll}
 
@@ -32,7 +32,7 @@ Added r ls s (Err e) = (e ≡ RollFull) × (r.places < length (letters_of r) + l
 
 -- no kind of letter has the code, or there is no such view
 abbrev pub NoSuchMatter : ℕ → ℕ → Type 0
-NoSuchMatter code view = ((b : Body) → code_of b ≢ code) ⊎ ((view < 1) ⊎ (last_view < view))
+NoSuchMatter code view = ((k : Kind) → code_at k ≢ code) ⊎ ((view < 1) ⊎ (last_view < view))
 
 -- the mask of the senders of the letters of that kind and view, or a refusal where there is none such
 abbrev pub Asked : List Letter → ℕ → ℕ → Result ℕ Refusal → Type 0

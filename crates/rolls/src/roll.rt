@@ -6,7 +6,8 @@ use letters::letter::Letter;
 mod calls;
 
 // The roll (the field's word: message log) keeps every letter, numbered from 0 as written. The memory
-// for all of them is reserved when it is made.
+// for all of them is reserved when it is made; the number of places stands beside them, since a Vec
+// may have more capacity than was asked for.
 #[derive(Drop)]
 pub struct Roll {
     letters: Vec<Letter>,

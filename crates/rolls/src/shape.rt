@@ -19,7 +19,7 @@ fn is_send_shaped(send: Send) -> bool
     ensures value { result ≡ send_shaped send }
     ensures rule { Decides result (SendShape send) }
 {
-    if send.step < 1 || send.step > LAST_STEP || send.edition == 0 {
+    if !(1..=LAST_STEP).contains(&send.step) || send.edition == 0 {
         return false;
     }
     if send.step == 1 {
@@ -34,7 +34,7 @@ fn is_ack_shaped(n: u8, ack: Ack) -> bool
     ensures value { result ≡ ack_shaped n ack }
     ensures rule { Decides result (AckShape n ack) }
 {
-    ack.lead < n && ack.step >= 1 && ack.step <= LAST_STEP && ack.edition != 0
+    ack.lead < n && (1..=LAST_STEP).contains(&ack.step) && ack.edition != 0
 }
 
 // Whether a VIEW-CHANGE has shape.
@@ -51,15 +51,14 @@ pub fn has_shape(letter: &Letter, council: &Council) -> bool
     ensures rule { Decides result (LetterShape council.now.n letter.now) }
 {
     let n = council.posts();
-    if letter.sender >= n || letter.view < 1 || letter.view > LAST_VIEW {
+    if letter.sender >= n || !(1..=LAST_VIEW).contains(&letter.view) {
         return false;
     }
     match letter.body {
         Body::Send(send) => is_send_shaped(send),
         Body::Ack(ack) => is_ack_shaped(n, ack),
         Body::Done(done) => done.edition != 0,
-        Body::SkipShare(_) => true,
-        Body::Skip(_) => true,
+        Body::SkipShare(_) | Body::Skip(_) => true,
         Body::ViewChange(change) => is_change_shaped(change),
     }
 }

@@ -4,6 +4,7 @@ ghost use Rattle.rolls.specs.Rolls.{Added, Asked, LetterAt, most_places};
 
 use crate::roll::Roll;
 use council::statement::LAST_VIEW;
+use letters::kind::Kind;
 use letters::letter::Letter;
 use masks::senders::senders;
 use refusals::Refusal;
@@ -43,10 +44,10 @@ impl Roll {
     pub fn letter(&self, number: u16) -> Result<Letter, Refusal>
         ensures { LetterAt self.now.letters.items number result }
     {
-        match self.letters.get(usize::from(number)) {
-            Some(letter) => Ok(*letter),
-            None => Err(Refusal::NoSuchLetter),
-        }
+        self.letters
+            .get(usize::from(number))
+            .copied()
+            .ok_or(Refusal::NoSuchLetter)
     }
 
     // Adds the letters, in their order. Refused: there are not places for all.
@@ -56,18 +57,20 @@ impl Roll {
         if self.room() < letters.len() {
             return Err(Refusal::RollFull);
         }
-        for letter in letters {
-            self.letters.push_reserved(*letter);
-        }
+        // There are places for all, so no memory is asked for.
+        let Ok(()) = self.letters.extend_from_slice(letters) else {
+            unreachable()
+        };
         Ok(())
     }
 
     // The mask of the senders of the letters of the kind with this code in the view. Refused: no kind
-    // has the code, or there is no such view.
+    // has the code, or there is no such view. Any byte may be asked for, so the code is no Kind.
     pub fn senders(&self, code: u8, view: u16) -> Result<u64, Refusal>
         ensures { Asked self.now.letters.items code view result }
     {
-        if !matches!(code, 0x11..=0x16) || view < 1 || view > LAST_VIEW {
+        Kind::try_from(code)?;
+        if !(1..=LAST_VIEW).contains(&view) {
             return Err(Refusal::Malformed);
         }
         Ok(senders(&self.letters, &(code, view)))

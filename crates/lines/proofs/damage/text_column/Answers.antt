@@ -1,5 +1,6 @@
-use Rattle.lines.proofs.Fronts.{column_whole}
+use Rattle.std.proofs.Common.{subst}
+use Rattle.lines.specs.Damage.{Sound}
 use Rattle.lines.proofs.damage.text_column.Goals as goal
 
-pub returns : goal.returns
-returns c = column_whole _ c.args.line.now _ c.front-longer.ensures.seen c.front_column.result c.front_column.ensures
+pub returns-in-Ok : goal.returns-in-Ok
+returns-in-Ok c = subst Sound c.in-Ok.ensures c.in-Ok.field-0.sound
