@@ -16,15 +16,10 @@ use Rattle.letters.specs.declared.letter.Letter.{Letter}
 use Rattle.letters.specs.declared.letter.Send.{Send as SendBody}
 use Rattle.letters.specs.declared.letter.Skip.{Skip as SkipBody}
 use Rattle.letters.specs.declared.letter.ViewChange.{ViewChange as ChangeBody}
-use Rattle.posts.specs.declared.post.Broadcast.{Broadcast}
 use Rattle.posts.specs.declared.post.Certified.{Certified}
-use Rattle.posts.specs.declared.post.Phase.{Phase}
 use Rattle.posts.specs.declared.post.Phase.TheVariants.{Broadcasting, Exchanging, Ended}
 use Rattle.posts.specs.declared.post.Post.{Post}
-use Rattle.posts.specs.declared.post.Skips.{Skips}
 use Rattle.posts.specs.declared.post.Standing.{Standing}
-use Rattle.posts.specs.declared.tables.Holdings.{Holdings}
-use Rattle.posts.specs.declared.tables.Tables.{Tables}
 use Rattle.posts.specs.Judging.{Sight, saying}
 use Rattle.posts.specs.Posts.{empty_tables, first_step, holdings_of, no_skips, signing}
 
@@ -40,52 +35,6 @@ letter me view body = record { sender = me; view = view; body = body }
 -- the senders counted are a quorum, and were not before the last
 abbrev pub completes : Council → ℕ → Bool
 completes c mask = tally mask == c.quorum
-
--- ---- a post with one part changed
-
-abbrev pub with_broadcast : Post → Broadcast → Post
-with_broadcast P b = record {
-  phase = P.phase;
-  view = P.view;
-  standing = P.standing;
-  broadcast = b;
-  skips = P.skips;
-  tables = P.tables;
-  changes = P.changes;
-}
-
-abbrev pub with_skips : Post → Skips → Post
-with_skips P k = record {
-  phase = P.phase;
-  view = P.view;
-  standing = P.standing;
-  broadcast = P.broadcast;
-  skips = k;
-  tables = P.tables;
-  changes = P.changes;
-}
-
-abbrev pub with_tables : Post → Tables → Post
-with_tables P t = record {
-  phase = P.phase;
-  view = P.view;
-  standing = P.standing;
-  broadcast = P.broadcast;
-  skips = P.skips;
-  tables = t;
-  changes = P.changes;
-}
-
-abbrev pub in_phase : Phase → Post → Post
-in_phase φ P = record {
-  phase = φ;
-  view = P.view;
-  standing = P.standing;
-  broadcast = P.broadcast;
-  skips = P.skips;
-  tables = P.tables;
-  changes = P.changes;
-}
 
 -- ---- entering a view
 
@@ -110,15 +59,14 @@ enter me S view = record { becomes = entering S view; signs = None; writes = ope
 
 -- a start: the edition is the key, of view 0 and without a certificate, and view 1 is entered
 abbrev pub on_start : ℕ → Post → ℕ → Effect
-on_start me P edition =
-    enter me (record { lock = P.standing.lock; key = record { view = 0; edition = edition; mask = 0 }; decision = P.standing.decision }) 1
+on_start me P edition = enter me (record P.standing { key = record { view = 0; edition = edition; mask = 0 } }) 1
 
 -- ---- one effect for each kind of letter
 
 -- SEND: the post signs for the lead's edition at the step, keeps the certificate that came, and says so
 abbrev pub on_send : ℕ → Post → ℕ → SendBody → Effect
 on_send me P from a = record {
-  becomes = with_tables P (signing P.tables a.step from (record { edition = a.edition; mask = a.mask }));
+  becomes = record P { tables = signing P.tables a.step from (record { edition = a.edition; mask = a.mask }) };
   signs = Some (saying P.view from a.step a.edition);
   writes = letter me P.view (Ack (record { lead = from; step = a.step; edition = a.edition })) ∷ [];
 }
@@ -138,7 +86,7 @@ quiet P = record { becomes = P; signs = None; writes = [] }
 -- counted posts as the certificate
 abbrev pub rises : ℕ → Post → ℕ → Effect
 rises me P acks = record {
-  becomes = with_broadcast P (record { step = P.broadcast.step + 1; acks = 0 });
+  becomes = record P { broadcast = record { step = P.broadcast.step + 1; acks = 0 } };
   signs = None;
   writes = next_letter me P acks ∷ [];
 }
@@ -147,7 +95,7 @@ rises me P acks = record {
 abbrev pub on_ack : Council → ℕ → Post → ℕ → Effect
 on_ack c me P from =
     let acks = naming P.broadcast.acks from in
-    cond (completes c acks) (rises me P acks) (quiet (with_broadcast P (record { step = P.broadcast.step; acks = acks })))
+    cond (completes c acks) (rises me P acks) (quiet (record P { broadcast = record P.broadcast { acks = acks } }))
 
 -- a quorum of broadcasts is complete: the post signs to skip, and says so
 abbrev pub agrees_to_skip : ℕ → Post → Effect
@@ -161,13 +109,13 @@ agrees_to_skip me P = record {
 abbrev pub on_done : Council → ℕ → Post → ℕ → Effect
 on_done c me P from =
     let done = naming P.skips.done from in
-    let counted = with_skips P (record { done = done; shares = P.skips.shares; wrote = P.skips.wrote }) in
+    let counted = record P { skips = record P.skips { done = done } } in
     cond (completes c done) (agrees_to_skip me counted) (quiet counted)
 
 -- a quorum agreed to skip: the post writes SKIP with the counted posts
 abbrev pub writes_skip : ℕ → Post → ℕ → Effect
 writes_skip me P shares = record {
-  becomes = with_skips P (record { done = P.skips.done; shares = shares; wrote = true });
+  becomes = record P { skips = record P.skips { shares = shares; wrote = true } };
   signs = None;
   writes = letter me P.view (Skip (record { mask = shares })) ∷ [];
 }
@@ -176,19 +124,15 @@ writes_skip me P shares = record {
 abbrev pub on_share : Council → ℕ → Post → ℕ → Effect
 on_share c me P from =
     let shares = naming P.skips.shares from in
-    cond (completes c shares) (writes_skip me P shares) (quiet (with_skips P (record { done = P.skips.done; shares = shares; wrote = P.skips.wrote })))
-
--- what a post tells the others that it holds
-abbrev pub telling : Holdings → Body
-telling h = ViewChange (record { key = h.key; lock = h.lock; commit = h.commit })
+    cond (completes c shares) (writes_skip me P shares) (quiet (record P { skips = record P.skips { shares = shares } }))
 
 -- SKIP: the post passes it on unless it wrote SKIP before, starts exchanging, and tells what it holds
 -- of the broadcast of the view's drawn lead l
 abbrev pub on_skip : ℕ → ℕ → Post → SkipBody → Effect
 on_skip l me P a =
-    let told = letter me P.view (telling (holdings_of P.tables l)) in
+    let told = letter me P.view (ViewChange (holdings_of P.tables l)) in
     record {
-      becomes = in_phase Exchanging (with_skips P (record { done = P.skips.done; shares = P.skips.shares; wrote = true }));
+      becomes = record P { phase = Exchanging; skips = record P.skips { wrote = true } };
       signs = None;
       writes = cond P.skips.wrote (told ∷ []) (letter me P.view (Skip a) ∷ told ∷ []);
     }
@@ -215,29 +159,14 @@ hearing c held l view S h = record {
       S.decision;
 }
 
--- the post with another standing, and the senders of VIEW-CHANGE counted
-abbrev pub hears : Post → Standing → ℕ → Post
-hears P S changes = record {
-  phase = P.phase;
-  view = P.view;
-  standing = S;
-  broadcast = P.broadcast;
-  skips = P.skips;
-  tables = P.tables;
-  changes = changes;
-}
-
 -- VIEW-CHANGE: what is good in it is taken over and the sender counted; at a quorum the post enters
 -- the next view, or has ended at the last
 abbrev pub on_change : Council → (Signature → Bool) → ℕ → ℕ → Post → ℕ → ChangeBody → Effect
 on_change c held l me P from h =
     let S = hearing c held l P.view P.standing h in
     let changes = naming P.changes from in
-    cond (completes c changes)
-    (cond (nat_lt P.view last_view)
-    (enter me S (P.view + 1))
-    (quiet (in_phase Ended (hears P S changes))))
-    (quiet (hears P S changes))
+    let heard = record P { standing = S; changes = changes } in
+    cond (completes c changes) (cond (nat_lt P.view last_view) (enter me S (P.view + 1)) (quiet (record heard { phase = Ended }))) (quiet heard)
 
 -- ---- every letter
 

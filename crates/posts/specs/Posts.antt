@@ -5,7 +5,7 @@ use Rattle.std.specs.Prelude.{ℕ, ◌-◌, Bool, false, cond, replicate, None, 
 use Rattle.masks.specs.Masks.{named, naming}
 use Rattle.letters.specs.declared.letter.Holding.{Holding}
 use Rattle.posts.specs.declared.post.Broadcast.{Broadcast}
-use Rattle.posts.specs.declared.tables.Holdings.{Holdings}
+use Rattle.letters.specs.declared.letter.ViewChange.{ViewChange}
 use Rattle.posts.specs.declared.post.Phase.TheVariants.{Idle}
 use Rattle.posts.specs.declared.post.Post.{Post}
 use Rattle.posts.specs.declared.post.Skips.{Skips}
@@ -17,7 +17,7 @@ use Rattle.posts.specs.declared.tables.Tables.{Tables}
 abbrev pub no_holding : Holding
 no_holding = record { edition = 0; mask = 0 }
 
-abbrev pub no_holdings : Holdings
+abbrev pub no_holdings : ViewChange
 no_holdings = record { key = no_holding; lock = no_holding; commit = no_holding }
 
 unfoldable pub empty_tables : Tables
@@ -52,11 +52,11 @@ abbrev pub signed_for : Tables → ℕ → ℕ → Bool
 signed_for t step lead = named (slice_index t.signed (step - 1)) lead
 
 -- what is held of the lead's broadcast
-abbrev pub holdings_of : Tables → ℕ → Holdings
+abbrev pub holdings_of : Tables → ℕ → ViewChange
 holdings_of t lead = slice_index_or t.holdings lead no_holdings
 
 -- the certificate that a SEND of step 2, 3 or 4 brings is that of the lead's key, lock or commit
-abbrev pub storing : Holdings → ℕ → Holding → Holdings
+abbrev pub storing : ViewChange → ℕ → Holding → ViewChange
 storing h step a = record {
   key = cond (step == 2) a h.key;
   lock = cond (step == 3) a h.lock;

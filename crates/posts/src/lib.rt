@@ -1,8 +1,9 @@
 // A post: what it keeps, and how it takes letters.
 #![tactic(auto)]
 
+pub mod oracles;
+pub mod papers;
 pub mod post;
-mod publish;
 pub mod seat;
 pub mod tables;
 pub mod taking;

@@ -14,7 +14,9 @@ pub enum Phase {
     Ended,
 }
 
-// An edition with the view and the certificate that stand behind it; all 0 where there is none.
+// An edition with the view and the certificate that stand behind it. View and mask are 0 where none
+// does, and the edition too where there is none: so the rules have it, and the letter that a post
+// begins its broadcast with.
 #[derive(Clone, Copy, Debug, PartialEq, Eq)]
 pub struct Certified {
     pub view: u16,
@@ -25,8 +27,8 @@ pub struct Certified {
 // What a post carries from view to view.
 #[derive(Clone, Copy)]
 pub struct Standing {
-    // The last view whose drawn lead's second step is known to be certified, or 0: no older key is
-    // signed for.
+    // The last view whose drawn lead's second step is known to be certified: no older key is signed
+    // for. 0 where there is none, which is before every view, so an Option would say no more.
     pub lock: u16,
     // What the post broadcasts, with the certificate that the others ask for.
     pub key: Certified,
@@ -37,14 +39,14 @@ pub struct Standing {
 // The post's own broadcast in its view.
 #[derive(Clone, Copy)]
 pub struct Broadcast {
-    // The step it is at, 1 to 4; 5 when it is complete.
+    // The step it is at, 1 to 4; 5 when it is complete. The rules number it so.
     pub step: u8,
     // The posts whose ACK of that step was counted.
     pub acks: u64,
 }
 
 // What was counted towards skipping to the exchange.
-#[derive(Clone, Copy)]
+#[derive(Clone, Copy, Debug, Default, PartialEq, Eq)]
 pub struct Skips {
     // The posts whose DONE was counted.
     pub done: u64,
@@ -58,7 +60,7 @@ pub struct Skips {
 #[derive(Clone, Copy)]
 pub struct Post {
     pub phase: Phase,
-    // The view it is in; 0 while idle.
+    // The view it is in; 0 while idle, by the rules, so that no letter is of its view.
     pub view: u16,
     pub standing: Standing,
     pub broadcast: Broadcast,

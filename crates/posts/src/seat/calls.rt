@@ -1,9 +1,11 @@
-// Taking a seat.
+// Taking a seat, and what follows from it.
 ghost use Rattle.std.specs.Prelude.{◌≡◌};
+ghost use Rattle.posts.specs.Effects.{completes};
 ghost use Rattle.posts.specs.Seats.{Seated};
 
 use crate::seat::Seat;
 use council::council::Council;
+use masks::mask::size;
 use refusals::Refusal;
 
 impl Seat {
@@ -15,5 +17,12 @@ impl Seat {
             return Err(Refusal::NoSuchPost);
         }
         Ok(Seat { council, me })
+    }
+
+    // Whether exactly a quorum was counted: so the last that was counted made it one.
+    pub(crate) fn completes(self, counted: u64) -> bool
+        ensures { result ≡ completes self.council counted }
+    {
+        size(counted) == self.council.quorum()
     }
 }

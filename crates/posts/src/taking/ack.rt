@@ -3,16 +3,16 @@ ghost use Rattle.std.specs.Prelude.{◌≡◌, ◌≤◌};
 ghost use Rattle.refusals.specs.Tables.{first_refusal};
 ghost use Rattle.posts.specs.Effects.{next_letter, on_ack};
 ghost use Rattle.posts.specs.Judging.{ack_tests};
-ghost use Rattle.posts.specs.Taking.{Took, papers};
+ghost use Rattle.posts.specs.Taking.{TookOn};
 
-use crate::post::Post;
+use crate::papers::Papers;
+use crate::post::{Broadcast, Post};
 use crate::seat::Seat;
 use council::signing::Record;
 use council::statement::{LAST_STEP, Signature, Statement};
 use letters::letter::{Ack, Body, Done, Letter, Send};
-use masks::mask::{names_post, size, with_post};
+use masks::mask::{names_post, with_post};
 use refusals::Refusal;
-use rolls::roll::Roll;
 
 impl Post {
     // Whether ACK is sent back: it is not for the post's own step and edition, its sender is counted,
@@ -26,15 +26,11 @@ impl Post {
     ) -> Result<(), Refusal>
         ensures { result ≡ first_refusal (ack_tests (R.held book.now) seat.me self.now sender ack) }
     {
-        if ack.lead != seat.me
-            || ack.step != self.broadcast.step
-            || ack.edition != self.standing.key.edition
-        {
-            return Err(Refusal::NotOwnBroadcast);
-        }
-        if names_post(self.broadcast.acks, sender) {
-            return Err(Refusal::Repeated);
-        }
+        let own = ack.lead == seat.me
+            && ack.step == self.broadcast.step
+            && ack.edition == self.standing.key.edition;
+        Refusal::NotOwnBroadcast.when(!own)?;
+        Refusal::Repeated.when(names_post(self.broadcast.acks, sender))?;
         let statement = Statement {
             view: self.view,
             lead: seat.me,
@@ -45,10 +41,7 @@ impl Post {
             signer: sender,
             statement,
         };
-        if !book.holds(&signature) {
-            return Err(Refusal::NotCertified);
-        }
-        Ok(())
+        Refusal::NotCertified.when(!book.holds(&signature))
     }
 
     // The letter that follows a certified step: the next SEND, or DONE after the last.
@@ -56,21 +49,16 @@ impl Post {
         ensures { result ≡ next_letter seat.me self.now mask }
     {
         let edition = self.standing.key.edition;
-        let body = if self.broadcast.step < LAST_STEP {
-            Body::Send(Send {
-                step: self.broadcast.step + 1,
-                edition,
-                key_view: 0,
-                mask,
-            })
-        } else {
-            Body::Done(Done { edition, mask })
-        };
-        Letter {
-            sender: seat.me,
-            view: self.view,
-            body,
+        if self.broadcast.step >= LAST_STEP {
+            return self.letter(seat, Body::Done(Done { edition, mask }));
         }
+        let send = Send {
+            step: self.broadcast.step + 1,
+            edition,
+            key_view: 0,
+            mask,
+        };
+        self.letter(seat, Body::Send(send))
     }
 
     // Counts the sender; at a quorum the own step rises, and the counted posts certify it.
@@ -79,23 +67,23 @@ impl Post {
         seat: Seat,
         sender: u8,
         ack: Ack,
-        book: &R,
-        roll: &mut Roll,
+        papers: &mut Papers<R>,
     ) -> Result<(u8, u16), Refusal>
         requires { ack.step ≤ 4 }
-        ensures { Took seat.me (ack_tests (R.held book.now) seat.me self.old sender ack) (on_ack seat.council seat.me self.old sender)
-            self.old (papers R.held R.number R.capacity roll.old book.now) result
-            self.new (papers R.held R.number R.capacity roll.new book.now) }
+        ensures { TookOn R.held R.number R.capacity seat.me (ack_tests (R.held papers.old.book) seat.me self.old sender ack) (on_ack seat.council seat.me self.old sender)
+            self.old papers.old result self.new papers.new }
     {
-        self.judge_ack(seat, sender, ack, book)?;
+        self.judge_ack(seat, sender, ack, &papers.book)?;
         let acks = with_post(self.broadcast.acks, sender);
-        if size(acks) != seat.council.quorum() {
+        if !seat.completes(acks) {
             self.broadcast.acks = acks;
             return Ok((0, self.view));
         }
-        roll.add(&[self.next_letter(seat, acks)])?;
-        self.broadcast.step = ack.step + 1;
-        self.broadcast.acks = 0;
+        papers.file(seat, None, &[self.next_letter(seat, acks)])?;
+        self.broadcast = Broadcast {
+            step: ack.step + 1,
+            acks: 0,
+        };
         Ok((1, self.view))
     }
 }

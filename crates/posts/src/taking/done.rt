@@ -3,18 +3,17 @@ ghost use Rattle.std.specs.Prelude.{◌≡◌};
 ghost use Rattle.refusals.specs.Tables.{first_refusal};
 ghost use Rattle.posts.specs.Effects.{on_done};
 ghost use Rattle.posts.specs.Judging.{done_tests};
-ghost use Rattle.posts.specs.Taking.{Took, papers};
+ghost use Rattle.posts.specs.Taking.{TookOn};
 
+use crate::papers::Papers;
 use crate::post::Post;
-use crate::publish::publish;
 use crate::seat::Seat;
 use council::certificate::is_good;
 use council::signing::Record;
 use council::statement::{LAST_STEP, Statement};
-use letters::letter::{Body, Done, Letter, SkipShare};
-use masks::mask::{names_post, size, with_post};
+use letters::letter::{Body, Done, SkipShare};
+use masks::mask::{names_post, with_post};
 use refusals::Refusal;
-use rolls::roll::Roll;
 
 impl Post {
     // Whether DONE is sent back: its sender is counted, or its certificate is not good for the
@@ -28,19 +27,14 @@ impl Post {
     ) -> Result<(), Refusal>
         ensures { result ≡ first_refusal (done_tests seat.council (R.held book.now) self.now sender done) }
     {
-        if names_post(self.skips.done, sender) {
-            return Err(Refusal::Repeated);
-        }
+        Refusal::Repeated.when(names_post(self.skips.done, sender))?;
         let last = Statement {
             view: self.view,
             lead: sender,
             step: LAST_STEP,
             edition: done.edition,
         };
-        if !is_good(&seat.council, book, done.mask, &last) {
-            return Err(Refusal::NotCertified);
-        }
-        Ok(())
+        Refusal::NotCertified.when(!is_good(&seat.council, book, done.mask, &last))
     }
 
     // Counts the sender; at a quorum the post signs to skip, and says so.
@@ -49,25 +43,19 @@ impl Post {
         seat: Seat,
         sender: u8,
         done: Done,
-        book: &mut R,
-        roll: &mut Roll,
+        papers: &mut Papers<R>,
     ) -> Result<(u8, u16), Refusal>
-        ensures { Took seat.me (done_tests seat.council (R.held book.old) self.old sender done) (on_done seat.council seat.me self.old sender)
-            self.old (papers R.held R.number R.capacity roll.old book.old) result
-            self.new (papers R.held R.number R.capacity roll.new book.new) }
+        ensures { TookOn R.held R.number R.capacity seat.me (done_tests seat.council (R.held papers.old.book) self.old sender done) (on_done seat.council seat.me self.old sender)
+            self.old papers.old result self.new papers.new }
     {
-        self.judge_done(seat, sender, done, book)?;
+        self.judge_done(seat, sender, done, &papers.book)?;
         let counted = with_post(self.skips.done, sender);
-        if size(counted) != seat.council.quorum() {
+        if !seat.completes(counted) {
             self.skips.done = counted;
             return Ok((0, self.view));
         }
-        let share = Letter {
-            sender: seat.me,
-            view: self.view,
-            body: Body::SkipShare(SkipShare),
-        };
-        publish(seat, Statement::skip(self.view), share, book, roll)?;
+        let share = self.letter(seat, Body::SkipShare(SkipShare));
+        papers.file(seat, Some(Statement::skip(self.view)), &[share])?;
         self.skips.done = counted;
         Ok((1, self.view))
     }

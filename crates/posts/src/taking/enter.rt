@@ -1,15 +1,15 @@
 // How a post enters a view.
-ghost use Rattle.std.specs.Prelude.{◌≡◌, [], ◌∷◌};
-ghost use Rattle.posts.specs.Effects.{enter, entering};
-ghost use Rattle.posts.specs.Taking.{Took, papers};
+ghost use Rattle.std.specs.Prelude.{◌≡◌, []};
+ghost use Rattle.posts.specs.Effects.{enter, entering, opening};
+ghost use Rattle.posts.specs.Taking.{TookOn};
 
+use crate::papers::Papers;
 use crate::post::{Broadcast, Phase, Post, Skips, Standing};
 use crate::seat::Seat;
 use crate::tables::Tables;
 use council::signing::Record;
 use letters::letter::{Body, Letter, Send};
 use refusals::Refusal;
-use rolls::roll::Roll;
 
 impl Post {
     // The post with this standing begins its broadcast in the view: counts, marks and holdings are
@@ -19,27 +19,15 @@ impl Post {
         seat: Seat,
         standing: Standing,
         view: u16,
-        book: &R,
-        roll: &mut Roll,
+        papers: &mut Papers<R>,
     ) -> Result<(u8, u16), Refusal>
-        ensures { Took seat.me [] (enter seat.me standing view)
-            self.old (papers R.held R.number R.capacity roll.old book.now) result
-            self.new (papers R.held R.number R.capacity roll.new book.now) }
+        ensures { TookOn R.held R.number R.capacity seat.me [] (enter seat.me standing view)
+            self.old papers.old result self.new papers.new }
     {
-        let send = Send {
-            step: 1,
-            edition: standing.key.edition,
-            key_view: standing.key.view,
-            mask: standing.key.mask,
-        };
-        let letter = Letter {
-            sender: seat.me,
-            view,
-            body: Body::Send(send),
-        };
-        roll.add(&[letter])?;
-        *self = Post::broadcasting(standing, view);
-        Ok((1, view))
+        let post = Post::broadcasting(standing, view);
+        papers.file(seat, None, &[post.opening(seat)])?;
+        *self = post;
+        Ok((1, self.view))
     }
 
     // A post with this standing at the beginning of a view.
@@ -51,13 +39,23 @@ impl Post {
             view,
             standing,
             broadcast: Broadcast { step: 1, acks: 0 },
-            skips: Skips {
-                done: 0,
-                shares: 0,
-                wrote: false,
-            },
+            skips: Skips::default(),
             tables: Tables::empty(),
             changes: 0,
         }
+    }
+
+    // SEND of step 1, with the post's key.
+    fn opening(&self, seat: Seat) -> Letter
+        ensures { result ≡ opening seat.me self.now.standing.key self.now.view }
+    {
+        let key = self.standing.key;
+        let send = Send {
+            step: 1,
+            edition: key.edition,
+            key_view: key.view,
+            mask: key.mask,
+        };
+        self.letter(seat, Body::Send(send))
     }
 }

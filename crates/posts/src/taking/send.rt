@@ -3,19 +3,19 @@ ghost use Rattle.std.specs.Prelude.{◌≡◌, ◌<◌, ◌≤◌};
 ghost use Rattle.refusals.specs.Tables.{first_refusal};
 ghost use Rattle.posts.specs.Effects.{on_send};
 ghost use Rattle.posts.specs.Judging.{first_tests, key_proven, send_tests};
-ghost use Rattle.posts.specs.Taking.{Took, papers};
+ghost use Rattle.posts.specs.Taking.{TookOn};
 
+use crate::oracles::Oracles;
+use crate::papers::Papers;
 use crate::post::Post;
-use crate::publish::publish;
 use crate::seat::Seat;
 use council::certificate::is_good;
 use council::check::Check;
 use council::draw::Draw;
 use council::signing::Record;
 use council::statement::Statement;
-use letters::letter::{Ack, Body, Holding, Letter, Send};
+use letters::letter::{Ack, Body, Holding, Send};
 use refusals::Refusal;
-use rolls::roll::Roll;
 
 // Whether the key that a SEND of step 1 brings is proven: a start's, of view 0, needs no proof; any
 // other needs a certificate of step 1 of its view's drawn lead.
@@ -43,29 +43,22 @@ impl Post {
         seat: Seat,
         sender: u8,
         send: Send,
+        oracles: &Oracles<C, D>,
         book: &R,
-        check: &C,
-        draw: &D,
     ) -> Result<(), Refusal>
-        requires { (1 ≤ send.step) × (send.step ≤ 4) }
-        ensures { result ≡ first_refusal (send_tests seat.council (R.held book.now) (C.admitted check.now) (D.lead draw.now) self.now sender send) }
+        ensures { result ≡ first_refusal (send_tests seat.council (R.held book.now) (C.admitted oracles.now.check) (D.lead oracles.now.draw) self.now sender send) }
     {
-        if self.tables.has_signed(send.step, sender) {
-            return Err(Refusal::Repeated);
-        }
+        Refusal::Repeated.when(self.tables.has_signed(send.step, sender))?;
         if send.step == 1 {
-            return self.judge_first(seat, send, book, check, draw);
+            return self.judge_first(seat, send, oracles, book);
         }
         let before = Statement {
             view: self.view,
             lead: sender,
-            step: send.step - 1,
+            step: send.step.saturating_sub(1),
             edition: send.edition,
         };
-        if !is_good(&seat.council, book, send.mask, &before) {
-            return Err(Refusal::NotCertified);
-        }
-        Ok(())
+        Refusal::NotCertified.when(!is_good(&seat.council, book, send.mask, &before))
     }
 
     // Whether SEND of step 1, not signed for this lead yet, is sent back.
@@ -73,22 +66,15 @@ impl Post {
         &self,
         seat: Seat,
         send: Send,
+        oracles: &Oracles<C, D>,
         book: &R,
-        check: &C,
-        draw: &D,
     ) -> Result<(), Refusal>
-        ensures { result ≡ first_refusal (first_tests seat.council (R.held book.now) (C.admitted check.now) (D.lead draw.now) self.now send) }
+        ensures { result ≡ first_refusal (first_tests seat.council (R.held book.now) (C.admitted oracles.now.check) (D.lead oracles.now.draw) self.now send) }
     {
-        if !check.admits(send.edition) {
-            return Err(Refusal::EditionNotAdmitted);
-        }
-        if send.key_view < self.standing.lock || send.key_view >= self.view {
-            return Err(Refusal::KeyViewOutOfRange);
-        }
-        if !is_key_proven(seat, send, book, draw) {
-            return Err(Refusal::NotCertified);
-        }
-        Ok(())
+        Refusal::EditionNotAdmitted.when(!oracles.check.admits(send.edition))?;
+        let keys = self.standing.lock..self.view;
+        Refusal::KeyViewOutOfRange.when(!keys.contains(&send.key_view))?;
+        Refusal::NotCertified.when(!is_key_proven(seat, send, book, &oracles.draw))
     }
 
     // Signs for the lead's edition at the step, keeps the certificate that came, and says so.
@@ -97,39 +83,33 @@ impl Post {
         seat: Seat,
         sender: u8,
         send: Send,
-        book: &mut R,
-        check: &C,
-        draw: &D,
-        roll: &mut Roll,
+        oracles: &Oracles<C, D>,
+        papers: &mut Papers<R>,
     ) -> Result<(u8, u16), Refusal>
-        requires { (1 ≤ send.step) × ((send.step ≤ 4) × (sender < 64)) }
-        ensures { Took seat.me (send_tests seat.council (R.held book.old) (C.admitted check.now) (D.lead draw.now) self.old sender send) (on_send seat.me self.old sender send)
-            self.old (papers R.held R.number R.capacity roll.old book.old) result
-            self.new (papers R.held R.number R.capacity roll.new book.new) }
+        ensures { TookOn R.held R.number R.capacity seat.me (send_tests seat.council (R.held papers.old.book) (C.admitted oracles.now.check) (D.lead oracles.now.draw) self.old sender send) (on_send seat.me self.old sender send)
+            self.old papers.old result self.new papers.new }
     {
-        self.judge_send(seat, sender, send, book, check, draw)?;
+        self.judge_send(seat, sender, send, oracles, &papers.book)?;
+        let Send {
+            step,
+            edition,
+            mask,
+            ..
+        } = send;
         let statement = Statement {
             view: self.view,
             lead: sender,
-            step: send.step,
-            edition: send.edition,
+            step,
+            edition,
         };
         let ack = Ack {
             lead: sender,
-            step: send.step,
-            edition: send.edition,
+            step,
+            edition,
         };
-        let letter = Letter {
-            sender: seat.me,
-            view: self.view,
-            body: Body::Ack(ack),
-        };
-        publish(seat, statement, letter, book, roll)?;
-        let holding = Holding {
-            edition: send.edition,
-            mask: send.mask,
-        };
-        self.tables.sign(send.step, sender, holding);
+        let letter = self.letter(seat, Body::Ack(ack));
+        papers.file(seat, Some(statement), &[letter])?;
+        self.tables.sign(step, sender, Holding { edition, mask });
         Ok((1, self.view))
     }
 }
