@@ -7,7 +7,8 @@ use crate::signing::Record;
 use crate::statement::{Signature, Statement};
 use masks::mask::{names_post, size, within};
 
-// Whether the mask is a good certificate of the statement (the field's word: quorum certificate).
+// Whether the mask is a good certificate of the statement (the field's word: quorum certificate). Mask
+// and statement stay apart: a letter brings the one, and who asks says the other.
 #[tactic(auto, using(crate::proofs::Certified::certificate_laws))]
 pub fn is_good<R: Record>(council: &Council, book: &R, mask: u64, statement: &Statement) -> bool
     ensures value { result ≡ good council.now (R.held book.now) mask statement.now }

@@ -19,7 +19,7 @@ pub fn value(byte: u8) -> Option<u8>
     }
 }
 
-// The digit of a value below sixteen.
+// The digit of a value below sixteen, by literals, as `value` reads it.
 fn digit(value: u8) -> u8
     requires { value < 16 }
     ensures { result ≡ char_of value }

@@ -41,7 +41,7 @@ pub(crate) trait Field: Sized {
         requires { width ≤ length fields.old.rest.now }
         ensures { Took (parts result) fields.old.rest.now fields.new.rest.now };
 
-    // Appends it to a line.
+    // Appends it to a line. `len` follows from `text`, and is said so that the next write finds room.
     fn write(&self, line: &mut LineText)
         requires { array_vec_len line.old + width ≤ 104 }
         ensures text { line.new.items ≡ after line.old.items (parts self.now) }

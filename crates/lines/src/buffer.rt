@@ -9,7 +9,7 @@ use crate::line::Line;
 use arrayvec::ArrayVec;
 
 // The first 512 characters of a line, and whether it has more: what is past them is only known to be
-// there.
+// there. A flag and no 513th place, since 512 characters are what is kept of a line.
 #[derive(Drop)]
 pub struct LineBuffer {
     kept: ArrayVec<u8, LONGEST>,

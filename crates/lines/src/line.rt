@@ -7,7 +7,8 @@ use crate::front::Front;
 
 // A line of an input: its number, counted from 1, and the part of the input it lies in. A note is a
 // comment, a frame is sound hexadecimal, and any other line is damaged in its text at a column. A frame
-// has a plain part and no SoundText: whoever hands a line over may have made it.
+// has a plain part and no SoundText: whoever hands a line over may have made it. Each case borrows its
+// part: so the rules have a line.
 #[derive(Clone, Copy, Debug)]
 pub enum Line<'a> {
     Note {

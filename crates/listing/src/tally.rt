@@ -7,7 +7,8 @@ use letters::kind::Kind;
 use lines::damage::Layer;
 use reader::input::LAST;
 
-// Letters by kind, notes, and lines damaged in their text or in their frame.
+// Letters by kind, notes, and lines damaged in their text or in their frame. Fields and no array by
+// kind: each is public, and the definitions name it.
 #[derive(Clone, Copy, Default)]
 pub struct Tally {
     pub send: u16,
@@ -77,7 +78,8 @@ impl Tally {
         }
     }
 
-    // Counts an entry, and says whether it did: no more than 65,535 are counted.
+    // Counts an entry, and says whether it did: no more than 65,535 are counted. A plain no, since there
+    // is one reason for it.
     pub fn count(&mut self, entry: Entry) -> bool
         ensures { Counted self.old entry self.new result }
     {

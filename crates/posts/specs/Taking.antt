@@ -1,6 +1,7 @@
 -- What a call on a post leaves: the answer, the post, and the papers that all posts share.
 -- A reader must believe: `limits`, that a call is refused for want of room last, and only for what it
--- would add; `filed`, what an effect adds; `Took`, that a refusal changes nothing.
+-- would add; `filed`, what an effect adds; `contents`, what papers say; `Took`, that a refusal changes
+-- nothing; `TookOn`, that the record stays besides where nothing is signed.
 use Rattle.std.specs.Prelude.{◌≡◌, ℕ, ◌+◌, Bool, false, cond, not, ◌&&◌, List, [], ◌∷◌, ◌++◌, length, Some, None, Ok, Err, Option, Result, ◌==◌, nat_lt}
 use Rattle.refusals.specs.Tables.{Tests, Verdict, first_refusal}
 use Rattle.refusals.specs.declared.Refusal.{Refusal}

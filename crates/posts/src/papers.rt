@@ -10,7 +10,9 @@ use letters::letter::Letter;
 use refusals::Refusal;
 use rolls::roll::Roll;
 
-// The papers that all posts share: the roll of letters and the record of signatures.
+// The papers that all posts share: the roll of letters and the record of signatures. No Model stands for
+// what they say, so contracts name a record's set, number and capacity each time: a Model's value is
+// data, and a set of signatures is a function.
 #[derive(Drop)]
 pub struct Papers<R> {
     pub roll: Roll,

@@ -58,7 +58,8 @@ fn mark(signed: &mut [u64], step: u8, lead: u8)
     }
 }
 
-// Stores what a SEND of the lead brought.
+// Stores what a SEND of the lead brought. Like `mark`, over other items: one for both would take the
+// change as a closure, and its contract would say nothing of it but that it was called.
 #[tactic(auto, using(std::proofs::lemmas::List::set_past))]
 fn store(holdings: &mut [ViewChange], step: u8, lead: u8, holding: Holding)
     ensures { holdings.new ≡ slice_set holdings.old lead (storing (slice_index_or holdings.old lead no_holdings) step holding) }
@@ -101,9 +102,9 @@ impl Tables {
     pub(crate) fn of_lead(&self, lead: u8) -> ViewChange
         ensures { result ≡ holdings_of self.now lead }
     {
-        match self.holdings.get(usize::from(lead)) {
-            Some(held) => *held,
-            None => ViewChange::default(),
-        }
+        self.holdings
+            .get(usize::from(lead))
+            .copied()
+            .unwrap_or_default()
     }
 }

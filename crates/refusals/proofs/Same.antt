@@ -1,4 +1,4 @@
--- The test behind == of a refusal decides equality. Assumes nothing.
+-- The test of two refusals by their numbers decides equality, as == does. Assumes nothing.
 use Rattle.std.proofs.Common.{◌≡◌, ◌==◌, Decides, rules}
 use Rattle.refusals.specs.declared.Refusal.{Refusal}
 use Rattle.refusals.specs.Numbers.{number_of}

@@ -7,7 +7,8 @@ mod calls;
 
 // The roll (the field's word: message log) keeps every letter, numbered from 0 as written. The memory
 // for all of them is reserved when it is made; the number of places stands beside them, since a Vec
-// may have more capacity than was asked for.
+// may have more capacity than was asked for. Records do likewise: a type for all would hide the fields
+// that the contracts of each name.
 #[derive(Drop)]
 pub struct Roll {
     letters: Vec<Letter>,

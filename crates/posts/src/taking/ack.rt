@@ -9,7 +9,7 @@ use crate::papers::Papers;
 use crate::post::{Broadcast, Post};
 use crate::seat::Seat;
 use council::signing::Record;
-use council::statement::{LAST_STEP, Signature, Statement};
+use council::statement::{LAST_STEP, Signature};
 use letters::letter::{Ack, Body, Done, Letter, Send};
 use masks::mask::{names_post, with_post};
 use refusals::Refusal;
@@ -31,15 +31,9 @@ impl Post {
             && ack.edition == self.standing.key.edition;
         Refusal::NotOwnBroadcast.when(!own)?;
         Refusal::Repeated.when(names_post(self.broadcast.acks, sender))?;
-        let statement = Statement {
-            view: self.view,
-            lead: seat.me,
-            step: ack.step,
-            edition: ack.edition,
-        };
         let signature = Signature {
             signer: sender,
-            statement,
+            statement: self.saying(seat.me, ack.step, ack.edition),
         };
         Refusal::NotCertified.when(!book.holds(&signature))
     }

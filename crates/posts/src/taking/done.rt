@@ -28,12 +28,7 @@ impl Post {
         ensures { result ≡ first_refusal (done_tests seat.council (R.held book.now) self.now sender done) }
     {
         Refusal::Repeated.when(names_post(self.skips.done, sender))?;
-        let last = Statement {
-            view: self.view,
-            lead: sender,
-            step: LAST_STEP,
-            edition: done.edition,
-        };
+        let last = self.saying(sender, LAST_STEP, done.edition);
         Refusal::NotCertified.when(!is_good(&seat.council, book, done.mask, &last))
     }
 

@@ -52,12 +52,7 @@ impl Post {
         if send.step == 1 {
             return self.judge_first(seat, send, oracles, book);
         }
-        let before = Statement {
-            view: self.view,
-            lead: sender,
-            step: send.step.saturating_sub(1),
-            edition: send.edition,
-        };
+        let before = self.saying(sender, send.step.saturating_sub(1), send.edition);
         Refusal::NotCertified.when(!is_good(&seat.council, book, send.mask, &before))
     }
 
@@ -96,12 +91,7 @@ impl Post {
             mask,
             ..
         } = send;
-        let statement = Statement {
-            view: self.view,
-            lead: sender,
-            step,
-            edition,
-        };
+        let statement = self.saying(sender, step, edition);
         let ack = Ack {
             lead: sender,
             step,
