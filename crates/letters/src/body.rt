@@ -3,7 +3,7 @@
 // impl that a macro of the repository writes is refused.
 ghost use Rattle.std.specs.Prelude.{◌≡◌, ℕ, ◌+◌, ◌-◌, ◌*◌, ◌≤◌, [], ◌∷◌, length};
 ghost use Rattle.letters.specs.Layout.{kind_of, parts_of, size_of};
-ghost use Rattle.letters.specs.Parts.{Took, after, long};
+ghost use Rattle.letters.specs.Parts.{after, long};
 ghost use Rattle.letters.specs.declared.kind.Kind.{Kind};
 ghost use Rattle.letters.specs.declared.letter.Body.{Body};
 ghost use Rattle.std.proofs.Common.{rules};

@@ -1,5 +1,5 @@
 // A text that is known to be sound.
-ghost use Rattle.std.specs.Prelude.{◌≡◌, ℕ, ◌≤◌, ◌%◌, length, MatchResult};
+ghost use Rattle.std.specs.Prelude.{◌≡◌, ◌≤◌, ◌%◌, length, MatchResult};
 ghost use Rattle.std.specs.List.{AllByRecursion};
 ghost use Rattle.hexadecimal.specs.Hex.{Hex};
 ghost use Rattle.lines.specs.Damage.{DamagedAt, Sound};

@@ -1,8 +1,8 @@
 // How a post takes letters: what each kind is refused for, and what it does. It answers how many letters
-// it wrote and its view, as two plain numbers: so the rules have it. ACK, DONE and SKIP-SHARE
-// each count the sender in a field of their own and do another thing at a quorum: one function for
-// the three would take the field and the deed from its caller, and have nothing left to say. Seat and
-// sender go together in them, but the one is the post's own and the other the letter's.
+// it wrote and its view, as two plain numbers: so the rules have it. ACK, DONE and SKIP-SHARE each count
+// the sender in a field of their own and do another thing at a quorum: one function for the three would
+// take the field and the deed from its caller, and have nothing left to say. Seat and sender go together
+// in them, but the one is the post's own and the other the letter's.
 ghost use Rattle.std.specs.Prelude.{◌≡◌};
 ghost use Rattle.posts.specs.Effects.{letter};
 ghost use Rattle.posts.specs.Judging.{saying};

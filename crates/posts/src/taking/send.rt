@@ -1,5 +1,5 @@
 // How a post takes SEND.
-ghost use Rattle.std.specs.Prelude.{◌≡◌, ◌<◌, ◌≤◌};
+ghost use Rattle.std.specs.Prelude.{◌≡◌};
 ghost use Rattle.refusals.specs.Tables.{first_refusal};
 ghost use Rattle.posts.specs.Effects.{on_send};
 ghost use Rattle.posts.specs.Judging.{first_tests, key_proven, send_tests};

@@ -1,5 +1,4 @@
 // How a post takes SKIP.
-ghost use Rattle.std.specs.Prelude.{◌≡◌};
 ghost use Rattle.posts.specs.Effects.{on_skip};
 ghost use Rattle.posts.specs.Judging.{skip_tests};
 ghost use Rattle.posts.specs.Taking.{TookOn};

@@ -1,5 +1,5 @@
 // Making a roll, adding to it, and asking it.
-ghost use Rattle.std.specs.Prelude.{◌≡◌, ◌-◌, min, [], ◌++◌, length, IfOk, vec_len};
+ghost use Rattle.std.specs.Prelude.{◌≡◌, ◌-◌, min, [], length, IfOk};
 ghost use Rattle.rolls.specs.Rolls.{Added, Asked, LetterAt, most_places};
 
 use crate::roll::Roll;
