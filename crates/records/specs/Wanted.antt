@@ -1,12 +1,11 @@
--- What is asked of a signing before a record takes it.
+-- What becomes of a signing, by the record's own answers: whether it holds the signature, and whether
+-- it is full.
 -- A reader must believe: nothing here. What a record answers is `sign_answer` of council.
-use Rattle.std.specs.Prelude.{◌≡◌, ◌<◌, ◌≤◌, Bool, true, false, Ok, Err, Result}
+use Rattle.std.specs.Prelude.{◌≡◌, Bool, not, Ok, Err, Result, MatchResult}
 use Rattle.refusals.specs.declared.Refusal.{Refusal}
-use Rattle.refusals.specs.declared.Refusal.TheVariants.{NoSuchPost, RecordFull}
 use Rattle.council.specs.declared.statement.Signature.{Signature}
+use Rattle.council.specs.Signing.{signed}
 
--- by the signature, whether it is held, and whether the record is full
+-- taken, and to be added where it is not held already; or refused
 abbrev pub Wanted : Signature → Bool → Bool → Result Bool Refusal → Type 0
-Wanted x held full (Ok true) = (x.signer < 64) × (held ≡ false) × (full ≡ false)
-Wanted x held full (Ok false) = (x.signer < 64) × (held ≡ true)
-Wanted x held full (Err e) = (64 ≤ x.signer → e ≡ NoSuchPost) × (x.signer < 64 → (held ≡ false) × (full ≡ true) × (e ≡ RecordFull))
+Wanted x held full r = MatchResult r (λ yes. (signed x held full ≡ Ok tt) × (yes ≡ not held)) (λ e. signed x held full ≡ Err e)
