@@ -26,7 +26,7 @@ use Rattle.records.specs.Spread.{marked_none}
 decides-stated : (rs : List Row) (s : Statement) → Decides (stated rs s) ((k : ℕ) × (k < length rs) × HoldsAt (λ r. r.statement ≡ s) rs k)
 decides-stated rs s = decides-any (λ r. same_statement r.statement s) (λ r. r.statement ≡ s) (λ r. decides-same_statement r.statement s) rs
 
-stated_none : (rs : List Row) (s : Statement) → AllWithin (λ r. r.statement ≢ s) rs 0 (length rs) → stated rs s ≡ false
+pub stated_none : (rs : List Row) (s : Statement) → AllWithin (λ r. r.statement ≢ s) rs 0 (length rs) → stated rs s ≡ false
 stated_none rs s h = elim (cases_Bool (stated rs s)) [
   | inl e ↦
       let w = (decides-stated rs s).0 e in
@@ -140,7 +140,7 @@ module _ (rs : List Row) (x : Signature) (low : x.signer < 64) (sound : apart rs
 -- ---- what a sheet holds
 
 -- a test that holds of posts with a bit alone
-only_low : (p : ℕ) (r m : Bool) → r ≡ m → (r ≡ true → p < 64) → r ≡ (nat_lt p 64 && m)
+pub only_low : (p : ℕ) (r m : Bool) → r ≡ m → (r ≡ true → p < 64) → r ≡ (nat_lt p 64 && m)
 only_low p true m e low = ap₂ (λ a b. a && b) (sym (lt-ltb p 64 (low refl))) e
 only_low p false m e low = sym (and_right (nat_lt p 64) m (sym e))
 

@@ -68,7 +68,9 @@ impl Record for ListRecord {
 
     fn sign(&mut self, signature: Signature) -> Result<(), Refusal> {
         let full = self.signatures.len() == self.places;
-        if is_wanted(&signature, self.holds(&signature), full)? {
+        // No record is searched for a signer that it refuses.
+        let held = signature.signer < 64 && self.holds(&signature);
+        if is_wanted(&signature, held, full)? {
             self.signatures.push_reserved(signature);
         }
         Ok(())

@@ -70,7 +70,9 @@ impl Record for SheetRecord {
 
     fn sign(&mut self, signature: Signature) -> Result<(), Refusal> {
         let full = self.number == self.places;
-        if is_wanted(&signature, self.holds(&signature), full)? {
+        // No record is searched for a signer that it refuses.
+        let held = signature.signer < 64 && self.holds(&signature);
+        if is_wanted(&signature, held, full)? {
             mark(&mut self.rows, signature);
             self.number += 1;
         }
