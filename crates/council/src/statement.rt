@@ -1,6 +1,7 @@
 // What posts sign.
 ghost use Rattle.std.specs.Prelude.{◌≡◌, Decides};
-ghost use Rattle.council.specs.Statements.{Shape, of_broadcast, shaped, skipping};
+ghost use Rattle.council.specs.Signatures.{same};
+ghost use Rattle.council.specs.Statements.{Shape, of_broadcast, same_statement, shaped, skipping};
 ghost use Rattle.std.proofs.Common.{rules};
 
 use crate::council::Council;
@@ -49,7 +50,25 @@ impl Entry for Signature {
     }
 }
 
+impl Signature {
+    // Whether two signatures are one: what `==` says. A derive has no clause, so it is promised here.
+    pub fn is_same(&self, other: &Signature) -> bool
+        ensures value { result ≡ same self.now other.now }
+        ensures same { Decides result (self.now ≡ other.now) }
+    {
+        self == other
+    }
+}
+
 impl Statement {
+    // Whether two statements are one: what `==` says.
+    pub fn is_same(&self, other: &Statement) -> bool
+        ensures value { result ≡ same_statement self.now other.now }
+        ensures same { Decides result (self.now ≡ other.now) }
+    {
+        self == other
+    }
+
     // The skip statement of a view: its broadcasts are to end. By name, since a conversion from a
     // number would not say so.
     pub fn skip(view: u16) -> Statement

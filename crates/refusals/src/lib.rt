@@ -2,7 +2,7 @@
 // their numbers.
 #![tactic(auto)]
 
-ghost use Rattle.std.specs.Prelude.{◌≡◌, ◌≤◌, [], ◌∷◌};
+ghost use Rattle.std.specs.Prelude.{◌≡◌, ◌≤◌, [], ◌∷◌, ◌==◌, Decides};
 ghost use Rattle.refusals.specs.Numbers.{number_of};
 ghost use Rattle.refusals.specs.Tables.{first_refusal};
 
@@ -59,6 +59,14 @@ impl Refusal {
         ensures apart { (other : Refusal) → number_of other ≡ result → other ≡ self }
     {
         self as u8
+    }
+
+    // Whether two refusals are one: what `==` says. A derive has no clause, so it is promised here.
+    pub fn is_same(self, other: Refusal) -> bool
+        ensures value { result ≡ (number_of self == number_of other) }
+        ensures same { Decides result (self ≡ other) }
+    {
+        self == other
     }
 
     // Refuses with this, if the test holds.
