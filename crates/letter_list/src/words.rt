@@ -59,7 +59,7 @@ impl fmt::Display for Heading {
 
 impl fmt::Display for Listed {
     fn fmt<W: fmt::Write>(&self, f: &mut fmt::Formatter<W>) -> fmt::Result {
-        let kind = self.letter.body.kind();
+        let kind = self.letter.body.kind().name();
         write!(
             f,
             "{:>5}  {:>6}  {kind:<11}  {:>4}  {:>5}  {}",
@@ -179,12 +179,12 @@ impl fmt::Display for Summary {
             (Kind::Skip, tally.skip),
             (Kind::ViewChange, tally.view_change),
         ] {
-            writeln!(f, "  {kind:<11}  {count:>6}")?;
+            writeln!(f, "  {:<11}  {count:>6}", kind.name())?;
         }
         writeln!(f, "{:<13}  {:>6}", "notes", tally.notes)?;
         writeln!(f, "{:<13}  {:>6}", "damaged", tally.damaged())?;
-        writeln!(f, "  {:<11}  {:>6}", Layer::Text, tally.text)?;
-        writeln!(f, "  {:<11}  {:>6}", Layer::Frame, tally.frame)?;
+        writeln!(f, "  {:<11}  {:>6}", Layer::Text.name(), tally.text)?;
+        writeln!(f, "  {:<11}  {:>6}", Layer::Frame.name(), tally.frame)?;
         writeln!(f, "{:<13}  {:>6}", "lines", tally.lines())?;
         if self.more {
             writeln!(f, "Only the first {} lines were read.", tally.lines())?;

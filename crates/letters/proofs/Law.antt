@@ -72,7 +72,7 @@ widths_at kind.Skip = 1 ∷ 2 ∷ 8 ∷ []
 widths_at kind.ViewChange = 1 ∷ 2 ∷ 8 ∷ 8 ∷ 8 ∷ 8 ∷ 8 ∷ 8 ∷ []
 
 -- what a letter of the kind says with these numbers after the code
-abbrev body_at : Kind → List ℕ → Body
+abbrev pub body_at : Kind → List ℕ → Body
 body_at kind.Send vs = Send (record { step = get_or vs 2 0; edition = get_or vs 3 0; key_view = get_or vs 4 0; mask = get_or vs 5 0 })
 body_at kind.Ack vs = Ack (record { lead = get_or vs 2 0; step = get_or vs 3 0; edition = get_or vs 4 0 })
 body_at kind.Done vs = Done (record { edition = get_or vs 2 0; mask = get_or vs 3 0 })
@@ -81,7 +81,7 @@ body_at kind.Skip vs = Skip (record { mask = get_or vs 2 0 })
 body_at kind.ViewChange vs =
     ViewChange (record { key = record { edition = get_or vs 2 0; mask = get_or vs 3 0 }; lock = record { edition = get_or vs 4 0; mask = get_or vs 5 0 }; commit = record { edition = get_or vs 6 0; mask = get_or vs 7 0 } })
 
-abbrev letter_at : Kind → List ℕ → Letter
+abbrev pub letter_at : Kind → List ℕ → Letter
 letter_at k vs = record { sender = get_or vs 0 0; view = get_or vs 1 0; body = body_at k vs }
 
 -- the parts after the code

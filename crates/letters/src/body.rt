@@ -10,6 +10,7 @@ ghost use Rattle.std.proofs.Common.{rules};
 ghost use Rattle.arrayvec.specs.ArrayVec.{array_vec_len};
 
 use crate::field::{Field, Fields, LineText};
+use crate::kind::Kind;
 use crate::letter::{Ack, Body, Done, Holding, Send, Skip, SkipShare, ViewChange};
 
 // What the kinds of letter have in common. `kind` and `means` tie it to the layout.
@@ -273,6 +274,22 @@ impl LetterKind for ViewChange {
     ghost sized = { Prim.search rules };
 
     ghost means = { Prim.search rules };
+}
+
+impl Kind {
+    // How many characters a line of the kind has.
+    pub(crate) fn characters(self) -> usize
+        ensures { result ≡ 2 * size_of self }
+    {
+        2 * match self {
+            Kind::Send => Send::LENGTH,
+            Kind::Ack => Ack::LENGTH,
+            Kind::Done => Done::LENGTH,
+            Kind::SkipShare => SkipShare::LENGTH,
+            Kind::Skip => Skip::LENGTH,
+            Kind::ViewChange => ViewChange::LENGTH,
+        }
+    }
 }
 
 impl Body {

@@ -29,6 +29,20 @@ impl Kind {
     {
         self as u8
     }
+
+    // Its name, as rows give it.
+    pub fn name(self) -> &'static str
+        ensures { result.now ≡ word_of self }
+    {
+        match self {
+            Kind::Send => "SEND",
+            Kind::Ack => "ACK",
+            Kind::Done => "DONE",
+            Kind::SkipShare => "SKIP-SHARE",
+            Kind::Skip => "SKIP",
+            Kind::ViewChange => "VIEW-CHANGE",
+        }
+    }
 }
 
 impl TryFrom<u8> for Kind {
@@ -62,13 +76,6 @@ impl fmt::Display for Kind {
     ghost output = { λ kind. Some (word_of kind) };
 
     fn fmt<W: fmt::Write>(&self, f: &mut fmt::Formatter<W>) -> fmt::Result {
-        f.pad(match self {
-            Kind::Send => "SEND",
-            Kind::Ack => "ACK",
-            Kind::Done => "DONE",
-            Kind::SkipShare => "SKIP-SHARE",
-            Kind::Skip => "SKIP",
-            Kind::ViewChange => "VIEW-CHANGE",
-        })
+        f.pad(self.name())
     }
 }

@@ -1,7 +1,8 @@
 // Letters as lines: one cutter and one writer for all kinds.
-ghost use Rattle.std.specs.Prelude.{◌≡◌, ◌+◌, ◌≤◌, true, ◌++◌, length, is_ok};
+ghost use Rattle.std.specs.Prelude.{◌≡◌, ◌+◌, ◌*◌, ◌≤◌, true, [], ◌++◌, length, is_ok};
 ghost use Rattle.hexadecimal.specs.Hex.{digits};
-ghost use Rattle.letters.specs.Layout.{code_at, line_of};
+ghost use Rattle.letters.specs.Layout.{code_at, kind_of, line_of, size_of};
+ghost use Rattle.arrayvec.specs.ArrayVec.{array_vec_len};
 ghost use Rattle.letters.specs.Reading.{OnlyLine, Read, ReadsBack, Sole, Written, in_frame};
 
 use crate::body::LetterKind;
@@ -92,27 +93,31 @@ impl Letter {
         read_line(line)
     }
 
-    // The letter's line, without its end.
-    fn line(&self) -> LineText
-        ensures { result.items ≡ line_of self.now }
+    // Puts the letter's line, without its end, into an empty one. Lent and not handed back, so that it is
+    // not copied once more.
+    fn compose(&self, line: &mut LineText)
+        requires { line.old.items ≡ [] }
+        ensures text { line.new.items ≡ line_of self.now }
+        ensures len { array_vec_len line.new ≡ 2 * size_of (kind_of self.now.body) }
     {
-        let mut line = LineText::new();
-        self.body.code().write(&mut line);
-        self.sender.write(&mut line);
-        self.view.write(&mut line);
-        self.body.write(&mut line);
-        line
+        self.body.code().write(line);
+        self.sender.write(line);
+        self.view.write(line);
+        self.body.write(line);
     }
 
     // Writes the letter as a line, without its end, at the front of a buffer, and says how long it is.
+    #[tactic(auto, using(crate::proofs::Frames::line_long))]
     pub fn write(&self, out: &mut [u8]) -> Result<usize, Refusal>
         ensures written { Written (line_of self.now) out.old out.new result }
         ensures room { 104 ≤ length out.old → is_ok result ≡ true }
     {
-        let line = self.line();
-        if out.len() < line.len() {
+        let length = self.body.kind().characters();
+        if out.len() < length {
             return Err(Refusal::BufferTooShort);
         }
+        let mut line = LineText::new();
+        self.compose(&mut line);
         out[..line.len()].copy_from_slice(&line);
         Ok(line.len())
     }

@@ -22,16 +22,23 @@ impl Layer {
     {
         self as u8
     }
+
+    // Its name, as rows give it.
+    pub fn name(self) -> &'static str
+        ensures { result.now ≡ layer_word self }
+    {
+        match self {
+            Layer::Text => "text",
+            Layer::Frame => "frame",
+        }
+    }
 }
 
 impl fmt::Display for Layer {
     ghost output = { λ layer. Some (layer_word layer) };
 
     fn fmt<W: fmt::Write>(&self, f: &mut fmt::Formatter<W>) -> fmt::Result {
-        f.pad(match self {
-            Layer::Text => "text",
-            Layer::Frame => "frame",
-        })
+        f.pad(self.name())
     }
 }
 
